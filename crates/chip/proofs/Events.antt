@@ -1,0 +1,90 @@
+-- What each kind of event does, where it is not refused.
+use mathlib.Core.Bool.{Bool, true, false, cond, not}
+use mathlib.Core.List.{List}
+use mathlib.Core.Path.{_≡_, refl, sym, ap, _∙_, subst}
+use Prim.Native.Nat.{ℕ, _+_, _<_}
+use native.Mathlib.Omega.{arith}
+use borrow.Author.Tests.{lt-ltb}
+use lib.ListN.{set}
+use Rattle.registers.specs.declared.Chip.{Chip}
+use Rattle.registers.specs.declared.Phase.{Phase}
+use Rattle.registers.specs.declared.Phase.the-variants.{Idle, AddressAwaited, Ignoring, ControlAwaited, OneByte, EndlessBytes, Reading, ReadEnded}
+use Rattle.registers.specs.Record.{inPhase, withRegisters}
+use Rattle.registers.specs.State.{State, state}
+use Rattle.engine.specs.declared.event.Event.{Event}
+use Rattle.engine.specs.declared.event.Event.the-variants.{Byte, Start, Stop, ReadAcknowledged, ReadNotAcknowledged, Reset, Sensor, Unlisted}
+use Rattle.engine.specs.Event.{eventOf}
+use Rattle.engine.specs.Step.{onByte, applied, accepted}
+use Rattle.chip.specs.Phases.{awaitsData, awaitsCommand, isDeaf, afterContent, afterUnheard}
+use Rattle.chip.specs.Promised.{Answer, Refused, Nothing, Acknowledged, NotAcknowledged, Read, After, after, refusalOf, stepOf, counted, isAddressed, acknowledge, phaseAfterAddress, controlled, readByte, phaseAfterLastRead, pulsed, sensed, commandOf, storedOf, placeOf, nextAddress}
+use Rattle.chip.specs.Effects.{plain, displayed}
+use Rattle.chip.proofs.Refusals.{accepted-step, past-low, false-true}
+
+pub byte-event : (b : ℕ) → b < 256 → eventOf b ≡ Byte b
+byte-event b h = simp (lt-ltb b 256 h)
+
+pub sensor-event : (v : ℕ) → v < 256 → eventOf (512 + v) ≡ Sensor v
+sensor-event v h = past-low (512 + v) (omega arith) ∙ simp (lt-ltb (512 + v) 768 (omega arith)) (ap Sensor (omega arith))
+
+same-phase : (s : State) (p : Phase) → s .chip .phase ≡ p → plain NotAcknowledged (s .chip) s ≡ plain NotAcknowledged (inPhase (s .chip) p) s
+same-phase s p e = ap (λ (q : Phase). plain NotAcknowledged (inPhase (s .chip) q) s) e
+
+-- a byte in the phases that take a command, take display data, or take nothing
+pub command-at :
+    (p : Phase) (b number : ℕ) (s : State) → awaitsCommand p ≡ true
+    → onByte p b number s ≡ plain Acknowledged (withRegisters (inPhase (s .chip) (afterContent p)) (commandOf b (s .chip .registers))) s
+command-at Idle b number s t = absurd (false-true t)
+command-at AddressAwaited b number s t = absurd (false-true t)
+command-at Ignoring b number s t = absurd (false-true t)
+command-at ControlAwaited b number s t = absurd (false-true t)
+command-at (OneByte true) b number s t = absurd (false-true t)
+command-at (OneByte false) b number s t = refl
+command-at (EndlessBytes true) b number s t = absurd (false-true t)
+command-at (EndlessBytes false) b number s t = refl
+command-at Reading b number s t = absurd (false-true t)
+command-at ReadEnded b number s t = absurd (false-true t)
+
+pub display-at :
+    (p : Phase) (b number : ℕ) (s : State) → awaitsData p ≡ true
+    → onByte p b number s
+    ≡ after Acknowledged (withRegisters (inPhase (s .chip) (afterContent p)) (nextAddress (s .chip .registers)))
+    (set (s .memory) (placeOf (s .chip .registers)) (storedOf (s .chip .registers) b)) (set (s .writers) (placeOf (s .chip .registers)) number)
+display-at Idle b number s t = absurd (false-true t)
+display-at AddressAwaited b number s t = absurd (false-true t)
+display-at Ignoring b number s t = absurd (false-true t)
+display-at ControlAwaited b number s t = absurd (false-true t)
+display-at (OneByte true) b number s t = refl
+display-at (OneByte false) b number s t = absurd (false-true t)
+display-at (EndlessBytes true) b number s t = refl
+display-at (EndlessBytes false) b number s t = absurd (false-true t)
+display-at Reading b number s t = absurd (false-true t)
+display-at ReadEnded b number s t = absurd (false-true t)
+
+pub unheard-at : (p : Phase) (b number : ℕ) (s : State) → s .chip .phase ≡ p → isDeaf p ≡ true → onByte p b number s ≡ plain NotAcknowledged (inPhase (s .chip) (afterUnheard p)) s
+unheard-at Idle b number s e t = same-phase s Idle e
+unheard-at AddressAwaited b number s e t = absurd (false-true t)
+unheard-at Ignoring b number s e t = same-phase s Ignoring e
+unheard-at ControlAwaited b number s e t = absurd (false-true t)
+unheard-at (OneByte rs) b number s e t = absurd (false-true t)
+unheard-at (EndlessBytes rs) b number s e t = absurd (false-true t)
+unheard-at Reading b number s e t = refl
+unheard-at ReadEnded b number s e t = refl
+
+-- an accepted byte, by the phase
+pub by-phase :
+    (s : State) (b : ℕ) → b < 256 → refusalOf b s ≡ 0
+    → stepOf b s ≡ onByte (s .chip .phase) b (s .chip .count + 1) (state (counted (s .chip)) (s .memory) (s .writers))
+unfolding accepted applied
+by-phase s b is-byte h =
+    accepted-step b s h
+    ∙ ap (λ (e : Event). applied e (s .chip .count + 1) (state (counted (s .chip)) (s .memory) (s .writers))) (byte-event b is-byte)
+
+pub in-phase-told :
+    (s : State) (b : ℕ) → b < 256 → refusalOf b s ≡ 0 → (p : Phase) → s .chip .phase ≡ p
+    → stepOf b s ≡ onByte p b (s .chip .count + 1) (state (counted (s .chip)) (s .memory) (s .writers))
+in-phase-told s b is-byte h p e =
+    by-phase s b is-byte h ∙ ap (λ (q : Phase). onByte q b (s .chip .count + 1) (state (counted (s .chip)) (s .memory) (s .writers))) e
+
+pub display-step : (s : State) (b : ℕ) → b < 256 → refusalOf b s ≡ 0 → awaitsData (s .chip .phase) ≡ true → stepOf b s ≡ displayed b s
+display-step s b is-byte h t =
+    by-phase s b is-byte h ∙ display-at (s .chip .phase) b (s .chip .count + 1) (state (counted (s .chip)) (s .memory) (s .writers)) t

@@ -1,0 +1,260 @@
+-- Demand 2 over whole runs: each place of the memories names the last display byte that landed there.
+use mathlib.Core.Bool.{Bool, true, false, cond, _&&_}
+use mathlib.Core.List.{List, [], _∷_}
+use mathlib.Core.Logic.{_⊎_, inl, inr}
+use mathlib.Core.Path.{_≡_, refl, sym, ap, _∙_, subst}
+use Prim.Native.Nat.{ℕ, zero, suc, _+_, _-_, _<_, _≤_, suc-le-suc}
+use native.Mathlib.Decide.{decLt, ℕ-discrete}
+use native.Mathlib.Nat.{le-of-suc-le-suc, not-suc-le-zero}
+use native.Mathlib.Numerals.{one-add}
+use native.Mathlib.Omega.{arith}
+use borrow.Author.Tests.{le-ltb}
+use lib.Dec.{eqb, ltb}
+use lib.ListN.{getD, set, length}
+use lib.Seq.{getD-set-same, getD-set-other}
+use Rattle.registers.specs.declared.Phase.{Phase}
+use Rattle.registers.specs.declared.Phase.the-variants.{Idle, AddressAwaited, Ignoring, ControlAwaited, OneByte, EndlessBytes, Reading, ReadEnded}
+use Rattle.registers.specs.State.{State, state}
+use Rattle.engine.specs.declared.event.Event.{Event}
+use Rattle.engine.specs.declared.event.Event.the-variants.{Byte, Start, Stop, ReadAcknowledged, ReadNotAcknowledged, Reset, Sensor, Unlisted}
+use Rattle.engine.specs.Event.{eventOf}
+use Rattle.engine.specs.Run
+use Rattle.engine.specs.Run.{unlessStopped}
+use Rattle.engine.specs.Step.{contentOf, onByte, applied, accepted, counted}
+use Rattle.engine.proofs.Refusals.{entry-fit}
+use Rattle.engine.proofs.Memory.{place-bound, fit-x, fit-y}
+use Rattle.chip.specs.Effects.{displayed}
+use Rattle.chip.specs.LastWriter.{Lands, before, Untouched, Written, LastWriter}
+use Rattle.chip.specs.Phases.{awaitsData}
+use Rattle.chip.specs.Promised.{After, Fit, Outcome, outcome, Acknowledged, entryRefusal, refusalOf, stepOf, runFrom, placeOf, storedOf}
+use Rattle.chip.proofs.Allowed.{accepted-fit}
+use Rattle.chip.proofs.Events.{display-step, byte-event}
+use Rattle.chip.proofs.Refusals.{accepted-step, true-false}
+use Rattle.chip.proofs.Runs.{run-shift}
+
+-- ---- one event
+
+-- the event is no display byte
+abbrev Quiet : Event → Phase → Type 0
+Quiet (Byte b) p = awaitsData p ≡ false
+Quiet Start p = Unit
+Quiet Stop p = Unit
+Quiet ReadAcknowledged p = Unit
+Quiet ReadNotAcknowledged p = Unit
+Quiet Reset p = Unit
+Quiet (Sensor v) p = Unit
+Quiet Unlisted p = Unit
+
+-- both memories are as they were
+abbrev Kept : After → State → Type 0
+Kept a s = (a .state .memory ≡ s .memory) × (a .state .writers ≡ s .writers)
+
+quiet-byte : (p : Phase) (b number : ℕ) (s : State) → awaitsData p ≡ false → Kept (onByte p b number s) s
+quiet-byte Idle b number s q = (refl, refl)
+quiet-byte AddressAwaited b number s q = (refl, refl)
+quiet-byte Ignoring b number s q = (refl, refl)
+quiet-byte ControlAwaited b number s q = (refl, refl)
+quiet-byte (OneByte true) b number s q = absurd (true-false q)
+quiet-byte (OneByte false) b number s q = (refl, refl)
+quiet-byte (EndlessBytes true) b number s q = absurd (true-false q)
+quiet-byte (EndlessBytes false) b number s q = (refl, refl)
+quiet-byte Reading b number s q = (refl, refl)
+quiet-byte ReadEnded b number s q = (refl, refl)
+
+quiet-event : (v : Event) (number : ℕ) (s : State) → Quiet v (s .chip .phase) → Kept (applied v number s) s
+unfolding applied
+quiet-event (Byte b) number s q = quiet-byte (s .chip .phase) b number s q
+quiet-event Start number s q = (refl, refl)
+quiet-event Stop number s q = (refl, refl)
+quiet-event ReadAcknowledged number s q = (refl, refl)
+quiet-event ReadNotAcknowledged number s q = (refl, refl)
+quiet-event Reset number s q = (refl, refl)
+quiet-event (Sensor v) number s q = (refl, refl)
+quiet-event Unlisted number s q = (refl, refl)
+
+-- every accepted event adds 1 to the count
+counts-byte : (p : Phase) (b number : ℕ) (s : State) → onByte p b number s .state .chip .count ≡ s .chip .count
+counts-byte Idle b number s = refl
+counts-byte AddressAwaited b number s = refl
+counts-byte Ignoring b number s = refl
+counts-byte ControlAwaited b number s = refl
+counts-byte (OneByte true) b number s = refl
+counts-byte (OneByte false) b number s = refl
+counts-byte (EndlessBytes true) b number s = refl
+counts-byte (EndlessBytes false) b number s = refl
+counts-byte Reading b number s = refl
+counts-byte ReadEnded b number s = refl
+
+counts-event : (v : Event) (number : ℕ) (s : State) → applied v number s .state .chip .count ≡ s .chip .count
+unfolding applied
+counts-event (Byte b) number s = counts-byte (s .chip .phase) b number s
+counts-event Start number s = refl
+counts-event Stop number s = refl
+counts-event ReadAcknowledged number s = refl
+counts-event ReadNotAcknowledged number s = refl
+counts-event Reset number s = refl
+counts-event (Sensor v) number s = refl
+counts-event Unlisted number s = refl
+
+pub counts-accepted : (e : ℕ) (s : State) → accepted e s .state .chip .count ≡ s .chip .count + 1
+unfolding accepted
+counts-accepted e s = counts-event (eventOf e) (s .chip .count + 1) (state (counted (s .chip)) (s .memory) (s .writers))
+
+-- the events that are no bytes, by the tests that tell them
+quiet-kinds :
+    (a b c d f g h : Bool) (x : ℕ) (p : Phase)
+    → Quiet (cond a Start (cond b Stop (cond c ReadAcknowledged (cond d ReadNotAcknowledged (cond f Reset (cond g Unlisted (cond h (Sensor x) Unlisted))))))) p
+quiet-kinds true b c d f g h x p = tt
+quiet-kinds false true c d f g h x p = tt
+quiet-kinds false false true d f g h x p = tt
+quiet-kinds false false false true f g h x p = tt
+quiet-kinds false false false false true g h x p = tt
+quiet-kinds false false false false false true h x p = tt
+quiet-kinds false false false false false false true x p = tt
+quiet-kinds false false false false false false false x p = tt
+
+-- what an accepted event does to place k: it lands there, or the place is as it was
+record Landed (e : ℕ) (s end : State) (k : ℕ) : Type 0 where
+  lands : Lands e s k
+  byte : getD (end .memory) k 0 ≡ storedOf (s .chip .registers) e
+  writer : getD (end .writers) k 0 ≡ s .chip .count + 1
+
+record Passed (e : ℕ) (s end : State) (k : ℕ) : Type 0 where
+  misses : Lands e s k → ⊥
+  byte : getD (end .memory) k 0 ≡ getD (s .memory) k 0
+  writer : getD (end .writers) k 0 ≡ getD (s .writers) k 0
+
+module _ (e : ℕ) (s : State) (k : ℕ) (h : refusalOf e s ≡ 0) (fit : Fit s) where
+  quiet-passes : (Lands e s k → ⊥) → Quiet (eventOf e) (s .chip .phase) → Passed e s (stepOf e s .state) k
+  unfolding accepted
+  quiet-passes n q =
+      let same = quiet-event (eventOf e) (s .chip .count + 1) (state (counted (s .chip)) (s .memory) (s .writers)) q in
+      let step = accepted-step e s h in
+      record {
+        misses = n;
+        byte = ap (λ (a : After). getD (a .state .memory) k 0) step ∙ ap (λ (l : List ℕ). getD l k 0) (same .0);
+        writer = ap (λ (a : After). getD (a .state .writers) k 0) step ∙ ap (λ (l : List ℕ). getD l k 0) (same .1);
+      }
+
+  no-byte-quiet : 256 ≤ e → Quiet (eventOf e) (s .chip .phase)
+  no-byte-quiet b =
+      rw (le-ltb e 256 b)
+      (quiet-kinds (eqb e 256) (eqb e 257) (eqb e 258) (eqb e 259) (eqb e 260) (ltb e 512) (ltb e 768) (e - 512) (s .chip .phase))
+
+  data-lands : e < 256 → awaitsData (s .chip .phase) ≡ true → Landed e s (stepOf e s .state) k ⊎ Passed e s (stepOf e s .state) k
+  data-lands b t = go (ℕ-discrete (placeOf (s .chip .registers)) k)
+    where
+      step : stepOf e s ≡ displayed e s
+      step = display-step s e b h t
+
+      within : placeOf (s .chip .registers) < 1717
+      within = place-bound (s .chip .registers) (fit-x s fit) (fit-y s fit)
+
+      at-memory : (x : ℕ) → getD (stepOf e s .state .memory) x 0 ≡ getD (set (s .memory) (placeOf (s .chip .registers)) (storedOf (s .chip .registers) e)) x 0
+      at-memory x = ap (λ (a : After). getD (a .state .memory) x 0) step
+
+      at-writers : (x : ℕ) → getD (stepOf e s .state .writers) x 0 ≡ getD (set (s .writers) (placeOf (s .chip .registers)) (s .chip .count + 1)) x 0
+      at-writers x = ap (λ (a : After). getD (a .state .writers) x 0) step
+
+      go : Dec (placeOf (s .chip .registers) ≡ k) → Landed e s (stepOf e s .state) k ⊎ Passed e s (stepOf e s .state) k
+      go (yes q) =
+          inl
+          (record {
+            lands = record { is-byte = b; is-data = t; acknowledged = ap (λ (a : After). a .answer) step; at-place = q };
+            byte = subst (λ (x : ℕ). getD (stepOf e s .state .memory) x 0 ≡ storedOf (s .chip .registers) e) q
+                (at-memory _ ∙ getD-set-same (s .memory) _ _ 0 (subst (λ (n : ℕ). placeOf (s .chip .registers) < n) (sym (fit .memory-long)) within));
+            writer = subst (λ (x : ℕ). getD (stepOf e s .state .writers) x 0 ≡ s .chip .count + 1) q
+                (at-writers _ ∙ getD-set-same (s .writers) _ _ 0 (subst (λ (n : ℕ). placeOf (s .chip .registers) < n) (sym (fit .writers-long)) within));
+          })
+      go (no d) =
+          inr
+          (record {
+            misses = λ l. d (l .at-place);
+            byte = at-memory k ∙ getD-set-other (s .memory) _ k _ 0 (λ q. d (sym q));
+            writer = at-writers k ∙ getD-set-other (s .writers) _ k _ 0 (λ q. d (sym q));
+          })
+
+  effect : Landed e s (stepOf e s .state) k ⊎ Passed e s (stepOf e s .state) k
+  effect = go (decLt e 256) (awaitsData (s .chip .phase)) refl
+    where
+      go : Dec (e < 256) → (t : Bool) → awaitsData (s .chip .phase) ≡ t → Landed e s (stepOf e s .state) k ⊎ Passed e s (stepOf e s .state) k
+      go (no n) t et = inr (quiet-passes (λ l. n (l .is-byte)) (no-byte-quiet (omega arith)))
+      go (yes b) true et = data-lands b et
+      go (yes b) false et =
+          inr (quiet-passes (λ l. true-false (sym (l .is-data) ∙ et)) (subst (λ (v : Event). Quiet v (s .chip .phase)) (sym (byte-event e b)) et))
+
+-- ---- the run
+
+-- how the first event and the rest of a run come together at place k
+module _ (e : ℕ) (es : List ℕ) (s end : State) (n k : ℕ) (up : stepOf e s .state .chip .count ≡ s .chip .count + 1) where
+  then-written : Written es n (stepOf e s .state) end k → Written (e ∷ es) (suc n) s end k
+  then-written w =
+      record {
+        event = suc (w .event);
+        is-done = suc-le-suc (w .is-done);
+        landed = w .landed;
+        is-last = later;
+        byte = w .byte;
+        writer = w .writer ∙ omega arith;
+      }
+    where
+      later : (j : ℕ) → suc (w .event) < j → j < suc n → Lands (getD (e ∷ es) j 0) (before (e ∷ es) j s) k → ⊥
+      later zero a b l = omega arith
+      later (suc j) a b l = w .is-last j (le-of-suc-le-suc a) (le-of-suc-le-suc b) l
+
+  first-written : Landed e s (stepOf e s .state) k → Untouched es n (stepOf e s .state) end k → Written (e ∷ es) (suc n) s end k
+  first-written l u =
+      record {
+        event = zero;
+        is-done = omega arith;
+        landed = l .lands;
+        is-last = later;
+        byte = u .byte ∙ l .byte;
+        writer = u .writer ∙ l .writer;
+      }
+    where
+      later : (j : ℕ) → zero < j → j < suc n → Lands (getD (e ∷ es) j 0) (before (e ∷ es) j s) k → ⊥
+      later zero a b l = omega arith
+      later (suc j) a b l = u .none j (le-of-suc-le-suc b) l
+
+  still-untouched : Passed e s (stepOf e s .state) k → Untouched es n (stepOf e s .state) end k → Untouched (e ∷ es) (suc n) s end k
+  still-untouched p u = record { none = never; byte = u .byte ∙ p .byte; writer = u .writer ∙ p .writer }
+    where
+      never : (i : ℕ) → i < suc n → Lands (getD (e ∷ es) i 0) (before (e ∷ es) i s) k → ⊥
+      never zero b l = p .misses l
+      never (suc i) b l = u .none i (le-of-suc-le-suc b) l
+
+  joined :
+      Landed e s (stepOf e s .state) k ⊎ Passed e s (stepOf e s .state) k
+      → Untouched es n (stepOf e s .state) end k ⊎ Written es n (stepOf e s .state) end k
+      → Untouched (e ∷ es) (suc n) s end k ⊎ Written (e ∷ es) (suc n) s end k
+  joined first (inr w) = inr (then-written w)
+  joined (inl l) (inl u) = inr (first-written l u)
+  joined (inr p) (inl u) = inl (still-untouched p u)
+
+-- nothing was done
+pub idle : (es : List ℕ) (s : State) (k : ℕ) → Untouched es 0 s s k
+idle es s k = record { none = λ i b l. not-suc-le-zero b; byte = refl; writer = refl }
+
+-- what is claimed of the n events done from s to end
+abbrev pub Claim : List ℕ → ℕ → State → State → ℕ → Type 0
+Claim es n s end k = Untouched es n s end k ⊎ Written es n s end k
+
+-- the events that are done, from a state that 1 and 2 let pass
+pub from-written : (es : List ℕ) (s : State) (k : ℕ) → Fit s → Claim es (runFrom 0 es s .done) s (runFrom 0 es s .state) k
+from-written [] s k fit = inl (idle [] s k)
+from-written (e ∷ es) s k fit = go (refusalOf e s) refl (from-written es (accepted e s .state) k (accepted-fit e s fit))
+  where
+    go :
+        (x : ℕ) → refusalOf e s ≡ x
+        → Claim es (runFrom 0 es (accepted e s .state) .done) (accepted e s .state) (runFrom 0 es (accepted e s .state) .state) k
+        → Claim (e ∷ es) (unlessStopped x 0 s (runFrom 1 es (accepted e s .state)) .done) s (unlessStopped x 0 s (runFrom 1 es (accepted e s .state)) .state) k
+    go (suc x) q rest = inl (idle (e ∷ es) s k)
+    go zero q rest =
+        let o = runFrom 0 es (accepted e s .state) in
+        let step = accepted-step e s q in
+        let up : stepOf e s .state .chip .count ≡ s .chip .count + 1 = ap (λ (a : After). a .state .chip .count) step ∙ counts-accepted e s in
+        let then : Claim es (o .done) (stepOf e s .state) (o .state) k = subst (λ (a : After). Claim es (o .done) (a .state) (o .state) k) (sym step) rest in
+        let both : Claim (e ∷ es) (suc (o .done)) s (o .state) k = joined e es s (o .state) (o .done) k up (effect e s k q fit) then in
+        subst (λ (r : Outcome). Claim (e ∷ es) (r .done) s (r .state) k) (sym (run-shift 1 es (accepted e s .state)))
+        (subst (λ (m : ℕ). Claim (e ∷ es) m s (o .state) k) (sym (one-add (o .done))) both)

@@ -1,0 +1,130 @@
+-- What is promised of the chip, in one place: read this file first. The work stands in the files beside it.
+use mathlib.Core.Bool.{true}
+use mathlib.Core.List.{List, _++_}
+use mathlib.Core.Logic.{_↔_, inl}
+use mathlib.Core.Path.{_≡_, refl, ap, _∙_, subst}
+use Prim.Native.Nat.{ℕ, zero, suc, _+_, _<_}
+use Rattle.registers.specs.declared.Phase.the-variants.{Idle, AddressAwaited, ControlAwaited}
+use Rattle.registers.specs.Record.{inPhase, withRegisters}
+use Rattle.registers.specs.State.{State, state}
+use Rattle.engine.specs.declared.event.Event.{Event}
+use Rattle.engine.specs.Run.{runOf, unlessStopped}
+use Rattle.engine.specs.Step.{accepted, applied, stepOf}
+use Rattle.engine.proofs.Refusals.{entry-fit}
+use Rattle.chip.specs.Effects.{plain, displayed}
+use Rattle.chip.specs.LastWriter.{LastWriter}
+use Rattle.chip.specs.Phases.{awaitsData, awaitsCommand, isDeaf, afterContent, afterUnheard}
+use Rattle.chip.specs.Promised.{Refused, Nothing, Acknowledged, NotAcknowledged, Read, Fit, entryRefusal, refusalOf, runFrom, counted, isAddressed, acknowledge, phaseAfterAddress, controlled, readByte, phaseAfterLastRead, pulsed, sensed, commandOf}
+use Rattle.chip.specs.Runs.{continued}
+use Rattle.chip.specs.When.{When}
+use Rattle.chip.proofs.Allowed.{accepted-fit}
+use Rattle.chip.proofs.Events.{by-phase, in-phase-told, command-at, display-step, unheard-at, sensor-event}
+use Rattle.chip.proofs.LastWriter.{Claim, from-written, idle, counts-accepted}
+use Rattle.chip.proofs.Refusals.{verdict, when-so, accepted-step}
+use Rattle.chip.proofs.Runs.{from-append, from-fit}
+
+-- ---- refusals
+
+-- each number comes exactly when document 01's table says
+pub exactly-when : (e : ℕ) (s : State) (k : ℕ) → (refusalOf e s ≡ k) ↔ When e s k
+exactly-when e s k = (λ q. subst (λ (n : ℕ). When e s n) q (verdict e s), when-so e s k)
+
+-- a refused event gives its number, and changes nothing
+pub refused : (e : ℕ) (s : State) (k : ℕ) → refusalOf e s ≡ suc k → stepOf e s ≡ record { answer = Refused (suc k); state = s }
+unfolding stepOf
+refused e s k h = rw h
+
+-- what 1 and 2 let pass stays so: an allowed record stays allowed after any accepted event
+pub stays-fit : (e : ℕ) (s : State) → refusalOf e s ≡ 0 → Fit s → Fit (stepOf e s .state)
+stays-fit e s h fit = rw (accepted-step e s h) (accepted-fit e s fit)
+
+-- ---- events that are not refused, one law each
+
+module _ (s : State) where
+  pub start-law : refusalOf 256 s ≡ 0 → stepOf 256 s ≡ plain Nothing (inPhase (counted (s .chip)) AddressAwaited) s
+  unfolding accepted applied
+  start-law h = accepted-step 256 s h
+
+  pub stop-law : refusalOf 257 s ≡ 0 → stepOf 257 s ≡ plain Nothing (inPhase (counted (s .chip)) Idle) s
+  unfolding accepted applied
+  stop-law h = accepted-step 257 s h
+
+  -- a byte read, acknowledged by the master, and one that is not: the second ends the read
+  pub read-law : refusalOf 258 s ≡ 0 → stepOf 258 s ≡ plain (Read (readByte (s .chip))) (counted (s .chip)) s
+  unfolding accepted applied
+  read-law h = accepted-step 258 s h
+
+  pub last-read-law :
+      refusalOf 259 s ≡ 0 → stepOf 259 s ≡ plain (Read (readByte (s .chip))) (inPhase (counted (s .chip)) (phaseAfterLastRead (s .chip .phase))) s
+  unfolding accepted applied
+  last-read-law h = accepted-step 259 s h
+
+  -- the reset pulse touches neither memory, count nor pins
+  pub reset-law : refusalOf 260 s ≡ 0 → stepOf 260 s ≡ plain Nothing (pulsed (counted (s .chip))) s
+  unfolding accepted applied
+  reset-law h = accepted-step 260 s h
+
+  pub sensor-law : (v : ℕ) → v < 256 → refusalOf (512 + v) s ≡ 0 → stepOf (512 + v) s ≡ plain Nothing (sensed v (counted (s .chip))) s
+  unfolding accepted applied
+  sensor-law v b h =
+      accepted-step (512 + v) s h
+      ∙ ap (λ (e : Event). applied e (s .chip .count + 1) (state (counted (s .chip)) (s .memory) (s .writers))) (sensor-event v b)
+
+  -- a byte from the master: address, control byte, command, display byte, or one that nobody hears
+  module _ (b : ℕ) (is-byte : b < 256) (h : refusalOf b s ≡ 0) where
+    pub address-law :
+        s .chip .phase ≡ AddressAwaited
+        → stepOf b s
+        ≡ plain (acknowledge (isAddressed (s .chip .pins) b)) (inPhase (counted (s .chip)) (phaseAfterAddress (isAddressed (s .chip .pins) b) b)) s
+    address-law e = in-phase-told s b is-byte h AddressAwaited e
+
+    pub control-law : s .chip .phase ≡ ControlAwaited → stepOf b s ≡ plain Acknowledged (controlled b (counted (s .chip))) s
+    control-law e = in-phase-told s b is-byte h ControlAwaited e
+
+    pub command-law :
+        awaitsCommand (s .chip .phase) ≡ true
+        → stepOf b s
+        ≡ plain Acknowledged (withRegisters (inPhase (counted (s .chip)) (afterContent (s .chip .phase))) (commandOf b (s .chip .registers))) s
+    command-law t =
+        by-phase s b is-byte h ∙ command-at (s .chip .phase) b (s .chip .count + 1) (state (counted (s .chip)) (s .memory) (s .writers)) t
+
+    pub display-law : awaitsData (s .chip .phase) ≡ true → stepOf b s ≡ displayed b s
+    display-law t = display-step s b is-byte h t
+
+    pub unheard-law : isDeaf (s .chip .phase) ≡ true → stepOf b s ≡ plain NotAcknowledged (inPhase (counted (s .chip)) (afterUnheard (s .chip .phase))) s
+    unheard-law t =
+        by-phase s b is-byte h ∙ unheard-at (s .chip .phase) b (s .chip .count + 1) (state (counted (s .chip)) (s .memory) (s .writers)) refl t
+
+-- every accepted event adds 1 to the count, and that is its number
+pub count-law : (e : ℕ) (s : State) → refusalOf e s ≡ 0 → stepOf e s .state .chip .count ≡ s .chip .count + 1
+count-law e s h = rw (accepted-step e s h) (counts-accepted e s)
+
+-- ---- runs
+
+-- a run over two lists is the run over the first, gone on with the second where the first was not stopped
+pub run-append : (xs ys : List ℕ) (s : State) → runOf (xs ++ ys) s ≡ continued (runOf xs s) ys
+unfolding runOf
+run-append xs ys s = go (entryRefusal s)
+  where
+    go : (k : ℕ) → unlessStopped k 0 s (runFrom 0 (xs ++ ys) s) ≡ continued (unlessStopped k 0 s (runFrom 0 xs s)) ys
+    go zero = from-append 0 xs ys s
+    go (suc k) = refl
+
+-- an allowed record stays allowed over a run, and the memories keep their length
+pub run-stays-fit : (es : List ℕ) (s : State) → Fit s → Fit (runOf es s .state)
+unfolding runOf
+run-stays-fit es s fit = go (entryRefusal s)
+  where
+    go : (x : ℕ) → Fit (unlessStopped x 0 s (runFrom 0 es s) .state)
+    go zero = from-fit 0 es s fit
+    go (suc x) = fit
+
+-- the last writer, demand 2: at every place either nothing landed and byte and writer are as they were, or the last display byte that landed
+-- there is named by the writer and its stored byte is there
+pub last-writer : (es : List ℕ) (s : State) (k : ℕ) → LastWriter es s k
+unfolding runOf
+last-writer es s k = go (entryRefusal s) refl
+  where
+    go : (x : ℕ) → entryRefusal s ≡ x → Claim es (unlessStopped x 0 s (runFrom 0 es s) .done) s (unlessStopped x 0 s (runFrom 0 es s) .state) k
+    go zero q = from-written es s k (entry-fit s q)
+    go (suc x) q = inl (idle es s k)

@@ -1,0 +1,6 @@
+pub mod Allowed
+pub mod Events
+pub mod LastWriter
+pub mod Laws
+pub mod Refusals
+pub mod Runs

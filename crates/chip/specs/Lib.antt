@@ -1,0 +1,6 @@
+pub mod Effects
+pub mod LastWriter
+pub mod Phases
+pub mod Promised
+pub mod Runs
+pub mod When

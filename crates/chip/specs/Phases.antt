@@ -1,0 +1,59 @@
+-- What a byte means, by the bus phase.
+use mathlib.Core.Bool.{Bool, true, false, not}
+use Rattle.registers.specs.declared.Phase.{Phase}
+use Rattle.registers.specs.declared.Phase.the-variants.{Idle, AddressAwaited, Ignoring, ControlAwaited, OneByte, EndlessBytes, Reading, ReadEnded}
+
+-- display data: one byte or endless bytes are awaited, with RS 1
+abbrev pub awaitsData : Phase → Bool
+awaitsData Idle = false
+awaitsData AddressAwaited = false
+awaitsData Ignoring = false
+awaitsData ControlAwaited = false
+awaitsData (OneByte rs) = rs
+awaitsData (EndlessBytes rs) = rs
+awaitsData Reading = false
+awaitsData ReadEnded = false
+
+-- a command: the same, with RS 0
+abbrev pub awaitsCommand : Phase → Bool
+awaitsCommand Idle = false
+awaitsCommand AddressAwaited = false
+awaitsCommand Ignoring = false
+awaitsCommand ControlAwaited = false
+awaitsCommand (OneByte rs) = not rs
+awaitsCommand (EndlessBytes rs) = not rs
+awaitsCommand Reading = false
+awaitsCommand ReadEnded = false
+
+-- nothing: the chip is not spoken to
+abbrev pub isDeaf : Phase → Bool
+isDeaf Idle = true
+isDeaf AddressAwaited = false
+isDeaf Ignoring = true
+isDeaf ControlAwaited = false
+isDeaf (OneByte rs) = false
+isDeaf (EndlessBytes rs) = false
+isDeaf Reading = true
+isDeaf ReadEnded = true
+
+-- the phase after a command or display byte: a single byte is followed by a control byte, endless bytes by more of them
+abbrev pub afterContent : Phase → Phase
+afterContent Idle = Idle
+afterContent AddressAwaited = AddressAwaited
+afterContent Ignoring = Ignoring
+afterContent ControlAwaited = ControlAwaited
+afterContent (OneByte rs) = ControlAwaited
+afterContent (EndlessBytes rs) = EndlessBytes rs
+afterContent Reading = Reading
+afterContent ReadEnded = ReadEnded
+
+-- the phase after a byte that the chip does not take: a byte from the master while the chip reads out makes it ignore the rest
+abbrev pub afterUnheard : Phase → Phase
+afterUnheard Idle = Idle
+afterUnheard AddressAwaited = AddressAwaited
+afterUnheard Ignoring = Ignoring
+afterUnheard ControlAwaited = ControlAwaited
+afterUnheard (OneByte rs) = OneByte rs
+afterUnheard (EndlessBytes rs) = EndlessBytes rs
+afterUnheard Reading = Ignoring
+afterUnheard ReadEnded = Ignoring

@@ -1,0 +1,38 @@
+-- The bus events of document 01 by their 16-bit numbers, and the answers by theirs.
+use mathlib.Core.Bool.{Bool, true, false, cond, _&&_}
+use Prim.Native.Nat.{ℕ, _+_, _-_}
+use lib.Dec.{leb, ltb, eqb}
+use Rattle.engine.specs.declared.event.Event.{Event}
+use Rattle.engine.specs.declared.event.Event.the-variants.{Byte, Start, Stop, ReadAcknowledged, ReadNotAcknowledged, Reset, Sensor, Unlisted}
+use Rattle.engine.specs.declared.answer.Answer.{Answer}
+use Rattle.engine.specs.declared.answer.Answer.the-variants.{Refused, Nothing, Acknowledged, NotAcknowledged, Read}
+
+abbrev pub eventOf : ℕ → Event
+eventOf n =
+    cond (ltb n 256) (Byte n)
+    (cond (eqb n 256) Start
+    (cond (eqb n 257) Stop
+    (cond (eqb n 258) ReadAcknowledged
+    (cond (eqb n 259) ReadNotAcknowledged
+    (cond (eqb n 260) Reset
+    (cond (ltb n 512) Unlisted
+    (cond (ltb n 768) (Sensor (n - 512))
+    Unlisted)))))))
+
+abbrev pub isListed : Event → Bool
+isListed (Byte b) = true
+isListed Start = true
+isListed Stop = true
+isListed ReadAcknowledged = true
+isListed ReadNotAcknowledged = true
+isListed Reset = true
+isListed (Sensor s) = true
+isListed Unlisted = false
+
+-- the number of each answer: a refusal's is that of document 01's table, the others are the host's
+abbrev pub numberOf : Answer → ℕ
+numberOf (Refused n) = n
+numberOf Nothing = 256
+numberOf Acknowledged = 257
+numberOf NotAcknowledged = 258
+numberOf (Read b) = 512 + b

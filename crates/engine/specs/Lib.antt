@@ -1,0 +1,5 @@
+pub mod Display
+pub mod Command
+pub mod Event
+pub mod Step
+pub mod Run

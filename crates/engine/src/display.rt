@@ -1,0 +1,105 @@
+// Display bytes: what is stored, where, and how the address counter moves on.
+ghost use mathlib.Core.Path.{_≡_};
+ghost use Prim.Native.Nat.{_<_, _≤_};
+ghost use lib.ListN.{length, set};
+ghost use Rattle.engine.specs.Display.{ordered, kept, storedOf, columnOf, placeOf, next, nextOnWrap, nextAddress};
+use registers::Registers;
+
+// DO = 1 swaps the bit order.
+fn in_order(data_order: u8, byte: u8) -> u8
+    ensures { λ r. ⌜ r ≡ ordered «data_order» byte ⌝ }
+{
+    if data_order == 1 {
+        registers::reversed::reversed(byte)
+    } else {
+        byte
+    }
+}
+
+// Bank 16 has six bits.
+fn kept_in_bank(bank: u8, byte: u8) -> u8
+    ensures { λ r. ⌜ r ≡ kept bank byte ⌝ }
+{
+    if bank == 16 { byte % 64 } else { byte }
+}
+
+// The swap comes first, then the six bits of bank 16.
+fn stored(registers: Registers, byte: u8) -> u8
+    ensures { λ r. ⌜ r ≡ storedOf registers byte ⌝ }
+{
+    kept_in_bank(registers.y, in_order(registers.data_order, byte))
+}
+
+// MX = 1 writes from the right.
+fn column(registers: Registers) -> u8
+    requires { ⌜ registers .x ≤ 100 ⌝ }
+    ensures { λ r. ⌜ r ≡ columnOf registers ⌝ }
+{
+    if registers.mx == 1 {
+        100 - registers.x
+    } else {
+        registers.x
+    }
+}
+
+fn place(registers: Registers) -> usize
+    requires { ⌜ registers .x ≤ 100 ⌝ }
+    requires { ⌜ registers .y ≤ 16 ⌝ }
+    ensures { λ r. ⌜ r ≡ placeOf registers ⌝ }
+{
+    101 * (registers.y as usize) + (column(registers) as usize)
+}
+
+fn following(n: u8, last: u8) -> u8
+    ensures { λ r. ⌜ r ≡ next n last ⌝ }
+{
+    if n < last { n + 1 } else { 0 }
+}
+
+fn following_on_wrap(n: u8, last: u8, other: u8, other_last: u8) -> u8
+    ensures { λ r. ⌜ r ≡ nextOnWrap n last other «other_last» ⌝ }
+{
+    if n < last {
+        other
+    } else {
+        following(other, other_last)
+    }
+}
+
+// V = 0 counts along a bank, V = 1 along a column.
+fn moved_on(mut registers: Registers) -> Registers
+    ensures { λ r. ⌜ r ≡ nextAddress registers ⌝ }
+{
+    let x = registers.x;
+    let y = registers.y;
+    if registers.v == 1 {
+        registers.x = following_on_wrap(y, 16, x, 100);
+        registers.y = following(y, 16);
+    } else {
+        registers.x = following(x, 100);
+        registers.y = following_on_wrap(x, 100, y, 16);
+    }
+    registers
+}
+
+// Stores a display byte with the event's number, and hands back the registers with the address moved on.
+pub fn display_byte(
+    registers: Registers,
+    memory: &mut [u8],
+    writers: &mut [u64],
+    byte: u8,
+    number: u64,
+) -> Registers
+    requires { ⌜ registers .x ≤ 100 ⌝ }
+    requires { ⌜ registers .y ≤ 16 ⌝ }
+    requires { ⌜ length (now memory) ≡ 1717 ⌝ }
+    requires { ⌜ length (now writers) ≡ 1717 ⌝ }
+    ensures { λ r. ⌜ r ≡ nextAddress registers ⌝ }
+    ensures { λ r. ⌜ now (memory .exit) ≡ set (now (memory .entry)) (placeOf registers) (storedOf registers byte) ⌝ }
+    ensures { λ r. ⌜ now (writers .exit) ≡ set (now (writers .entry)) (placeOf registers) number ⌝ }
+{
+    let at = place(registers);
+    memory[at] = stored(registers, byte);
+    writers[at] = number;
+    moved_on(registers)
+}

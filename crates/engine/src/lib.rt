@@ -1,0 +1,10 @@
+// The inside of the chip: what an event does, and a run of events. Other crates go by what `chip` promises of it.
+pub mod answer;
+mod byte;
+mod command;
+mod display;
+mod event;
+mod plain;
+mod refusal;
+pub mod run;
+pub mod step;

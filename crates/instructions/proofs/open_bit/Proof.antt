@@ -1,0 +1,33 @@
+use Prim.Native.Nat.{_≤_, _-_}
+use borrow.Author.Needs.{needs}
+use Rattle.instructions.proofs.open_bit.Statement.{statement}
+use Rattle.instructions.proofs.open_bit.Tie as tie
+
+abbrev Inv-loop : tie.InvT-loop
+Inv-loop row place part₀ part = part ≤ 29
+
+abbrev μ-loop : tie.MeasureT-loop
+μ-loop row place part₀ part = 29 - part
+
+loop-holds : tie.Need-loop-holds Inv-loop μ-loop
+loop-holds c = search needs
+
+field-if-requires : tie.Need-field-if-requires Inv-loop μ-loop
+field-if-requires c κs = search needs
+
+add-part : tie.Need-add-part Inv-loop μ-loop
+add-part c = search needs
+
+loop-less : tie.Need-loop-less Inv-loop μ-loop
+loop-less c = search needs
+
+loop-again : tie.Need-loop-again Inv-loop μ-loop
+loop-again c = search needs
+
+returns : tie.Need-returns Inv-loop μ-loop
+returns c = search needs
+
+pub open-bit-spec : {M : Type 1} → statement M
+open-bit-spec =
+    tie.close
+    (tie.spec Inv-loop μ-loop loop-holds field-if-requires add-part loop-less loop-again returns)

@@ -1,0 +1,6 @@
+pub mod Below
+pub mod Tables
+pub mod TableTest
+pub mod Within
+pub mod Parts
+pub mod Put

@@ -1,0 +1,7 @@
+pub mod Places
+pub mod Record
+pub mod Reversed
+pub mod Table
+pub mod Data
+pub mod Listed
+pub mod State

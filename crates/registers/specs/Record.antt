@@ -1,0 +1,110 @@
+-- The chip's record of document 01: the registers in their order, widths, limits and reset values; what an allowed record is.
+use mathlib.Core.Bool.{Bool, true, false, _&&_}
+use mathlib.Core.List.{List, [], _∷_, map}
+use Prim.Native.Nat.{ℕ, _-_, _^_}
+use lib.Dec.{leb}
+use lib.ListN.{getD, set}
+use Rattle.registers.specs.declared.Registers.{Registers}
+use Rattle.registers.specs.declared.Chip.{Chip}
+use Rattle.registers.specs.declared.Phase.{Phase}
+use Rattle.registers.specs.declared.Phase.the-variants.{Idle}
+
+-- a register of the bit table: how many bits it has, the largest value that it takes, and its value after a reset
+pub record Register : Type 0 where
+  pub width : ℕ
+  pub limit : ℕ
+  pub reset : ℕ
+
+-- a register that takes every value of its width
+abbrev pub bits : ℕ → ℕ → Register
+bits w v = record { width = w; limit = 2 ^ w - 1; reset = v }
+
+-- one whose range is smaller than its width: H up to 4, X up to 100, Y up to 16
+abbrev pub upTo : ℕ → ℕ → Register
+upTo w n = record { width = w; limit = n; reset = 0 }
+
+-- h do pd v d e mx my ps x y bs bsh dp prs hve s tc sm vop gr gs0 gs1 gs2 gs3 dof dm ec oc
+abbrev pub registers : List Register
+registers =
+    upTo 3 4 ∷ bits 1 0 ∷ bits 1 1 ∷ bits 1 0 ∷ bits 1 0 ∷ bits 1 0 ∷ bits 1 0 ∷ bits 1 0 ∷ bits 1 0 ∷ upTo 7 100 ∷ upTo 5 16
+    ∷ bits 3 0 ∷ bits 1 0 ∷ bits 3 0 ∷ bits 1 0 ∷ bits 1 0 ∷ bits 3 0 ∷ bits 3 0 ∷ bits 1 0 ∷ bits 7 0 ∷ bits 2 0
+    ∷ bits 6 0 ∷ bits 6 0 ∷ bits 6 0 ∷ bits 6 0 ∷ bits 1 1 ∷ bits 1 0 ∷ bits 1 0 ∷ bits 1 0 ∷ []
+
+abbrev pub limits : List ℕ
+limits = map (λ (r : Register). r .limit) registers
+
+abbrev pub resets : List ℕ
+resets = map (λ (r : Register). r .reset) registers
+
+-- the record's registers as a list in that order, and back
+abbrev pub values : Registers → List ℕ
+values r =
+    r .h ∷ r .«data_order» ∷ r .pd ∷ r .v ∷ r .d ∷ r .e ∷ r .mx ∷ r .my ∷ r .ps ∷ r .x ∷ r .y
+    ∷ r .bs ∷ r .bsh ∷ r .dp ∷ r .prs ∷ r .hve ∷ r .s ∷ r .tc ∷ r .sm ∷ r .vop ∷ r .gr
+    ∷ r .gs0 ∷ r .gs1 ∷ r .gs2 ∷ r .gs3 ∷ r .dof ∷ r .dm ∷ r .ec ∷ r .oc ∷ []
+
+abbrev pub ofValues : List ℕ → Registers
+ofValues l =
+    record {
+      h = getD l 0 0;
+      «data_order» = getD l 1 0;
+      pd = getD l 2 0;
+      v = getD l 3 0;
+      d = getD l 4 0;
+      e = getD l 5 0;
+      mx = getD l 6 0;
+      my = getD l 7 0;
+      ps = getD l 8 0;
+      x = getD l 9 0;
+      y = getD l 10 0;
+      bs = getD l 11 0;
+      bsh = getD l 12 0;
+      dp = getD l 13 0;
+      prs = getD l 14 0;
+      hve = getD l 15 0;
+      s = getD l 16 0;
+      tc = getD l 17 0;
+      sm = getD l 18 0;
+      vop = getD l 19 0;
+      gr = getD l 20 0;
+      gs0 = getD l 21 0;
+      gs1 = getD l 22 0;
+      gs2 = getD l 23 0;
+      gs3 = getD l 24 0;
+      dof = getD l 25 0;
+      dm = getD l 26 0;
+      ec = getD l 27 0;
+      oc = getD l 28 0;
+    }
+
+-- register f, by its place in the order, becomes n
+abbrev pub put : ℕ → ℕ → Registers → Registers
+put f n r = ofValues (set (values r) f n)
+
+abbrev pub resetRegisters : Registers
+resetRegisters = ofValues resets
+
+abbrev pub resetChip : ℕ → Chip
+resetChip pins =
+    record { registers = resetRegisters; pins = pins; status = 0; «last_rs» = false; phase = Idle; count = 0 }
+
+abbrev pub inPhase : Chip → Phase → Chip
+inPhase c p =
+    record { registers = c .registers; pins = c .pins; status = c .status; «last_rs» = c .«last_rs»; phase = p; count = c .count }
+
+abbrev pub withRegisters : Chip → Registers → Chip
+withRegisters c r =
+    record { registers = r; pins = c .pins; status = c .status; «last_rs» = c .«last_rs»; phase = c .phase; count = c .count }
+
+-- t, and each number within its limit
+abbrev pub within : Bool → List ℕ → List ℕ → Bool
+within t [] ls = t
+within t (n ∷ ns) [] = false
+within t (n ∷ ns) (l ∷ ls) = within (t && leb n l) ns ls
+
+abbrev pub allowedRegisters : Registers → Bool
+allowedRegisters r = within true (values r) limits
+
+-- document 01, "Allowed"
+unfoldable pub allowed : Chip → Bool
+allowed c = allowedRegisters (c .registers) && leb (c .pins) 3

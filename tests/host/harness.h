@@ -1,0 +1,61 @@
+/* The common ground of the host tests: buffers lent to the library and to the model, calls made on
+ * both, and the comparison of everything they give and change.
+ *
+ * Each side has its own record, memory, writers, events and done number. Each of them lies in pages
+ * of its own: the buffer touches either the first or the last byte of the pages, the rest is filled
+ * with canaries, and a page before and after may not be touched at all. */
+#ifndef HARNESS_H
+#define HARNESS_H
+
+#include <stdbool.h>
+#include <stddef.h>
+#include <stdint.h>
+
+enum {
+    PLACES = 1717, MOST_PLACES = PLACES + 1,
+    RECORD_LEN = 35, MOST_WORDS = RECORD_LEN + 1,
+    MOST_EVENTS = 80000
+};
+
+/* Where a buffer lies in its pages. */
+enum where { AT_START, AT_END };
+
+/* The record and the memories, kept aside. */
+struct state {
+    uint64_t record[MOST_WORDS];
+    uint8_t memory[MOST_PLACES];
+    uint64_t writers[MOST_PLACES];
+};
+
+/* True when only a sample of the calls is wanted. */
+extern bool quick;
+
+void harness_start(void);
+
+/* Names the theme that the next calls belong to, for the message at a difference. */
+void theme(const char *name);
+
+/* Lends buffers of these lengths to both sides, memory and writers with random contents. */
+void lend(size_t record_len, size_t memory_len, size_t writers_len, enum where where);
+
+/* Lends buffers of the right lengths, by turns at the start and at the end of their pages. */
+void lend_usual(void);
+
+/* Gives both sides this record, as many words as the lent one has. words has MOST_WORDS words. */
+void set_record(const uint64_t *words);
+
+/* Keeps the record and the memories as they are now, and gives them back to both sides. */
+void save(struct state *state);
+void restore(const struct state *state);
+
+/* Fails unless record and memories are now as in this state. */
+void expect_state(const struct state *state);
+
+/* Make the call on both sides and compare. They give the common result. */
+uint64_t compare_reset(uint64_t pins);
+uint64_t compare_step(uint16_t event);
+uint64_t compare_run(const uint16_t *events, size_t events_len, uint64_t *done);
+
+unsigned long long calls_compared(void);
+
+#endif

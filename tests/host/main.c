@@ -1,0 +1,21 @@
+/* Holds the library against the model. `quick` as the argument makes a sample of the calls only. */
+#include "harness.h"
+#include "themes.h"
+
+#include <stdio.h>
+#include <string.h>
+
+int main(int argc, char **argv)
+{
+    quick = argc > 1 && strcmp(argv[1], "quick") == 0;
+    harness_start();
+    test_resets();
+    test_commands();
+    test_display();
+    test_counts();
+    test_runs();
+    test_refusals();
+    test_events();
+    printf("host tests: %llu calls compared, all equal\n", calls_compared());
+    return 0;
+}

@@ -1,0 +1,43 @@
+/* Records for the tests, and random numbers that are the same at every run. */
+#ifndef RECORDS_H
+#define RECORDS_H
+
+#include <stddef.h>
+#include <stdint.h>
+
+/* The words that the tests speak of by name. */
+enum {
+    W_H = 0, W_DO = 1, W_PD = 2, W_V = 3, W_MX = 6, W_X = 9, W_Y = 10, W_SM = 18,
+    W_PINS = 29, W_LAST_RS = 31, W_PHASE = 32, W_PHASE_RS = 33, W_COUNT = 34
+};
+
+enum { PHASES = 10, LAST_PAGE = 4 };
+
+/* Every phase, those that have an RS once with each. */
+struct bus_phase {
+    uint64_t phase;
+    uint64_t rs;
+};
+
+extern const struct bus_phase bus_phases[PHASES];
+
+/* The largest allowed value of a word. */
+uint64_t word_limit(size_t word);
+const char *word_name(size_t word);
+
+uint64_t random64(void);
+
+/* 0 up to, but not, bound. */
+uint64_t below(uint64_t bound);
+
+/* Each fills MOST_WORDS words; the one after the record is noise. */
+void reset_record(uint64_t *words, uint64_t pins);
+void full_record(uint64_t *words);
+void random_record(uint64_t *words);
+
+void set_phase(uint64_t *words, const struct bus_phase *phase);
+
+/* A number that is no bus event. */
+uint16_t unlisted_event(void);
+
+#endif

@@ -1,0 +1,184 @@
+/* Long random traffic: first step by step, then the same events by run, which must end in the same
+ * state. Refused events in the middle cut the run; it is then taken up again behind them. */
+#include "harness.h"
+#include "records.h"
+#include "themes.h"
+
+#include <string.h>
+
+enum { START = 256, STOP, READ_ACK, READ_NACK, RESET_PULSE, SENSOR = 512 };
+
+static uint16_t list[MOST_EVENTS];
+static size_t length;
+static size_t wanted;
+
+static void add(uint64_t event)
+{
+    if (length < wanted)
+        list[length++] = (uint16_t)event;
+}
+
+static uint64_t address(uint64_t pins)
+{
+    return 0x78 | (below(10) ? pins : below(4)) << 1;
+}
+
+/* Any byte, or one that moves to another page or near an edge. */
+static uint64_t command(void)
+{
+    switch (below(8)) {
+    case 0: return 0x01;
+    case 1: return 0x08 + below(8);
+    case 2: return 0x80 + 95 + below(8);
+    case 3: return 0x40 + 14 + below(5);
+    case 4: return 0x10 + below(16);
+    default: return below(256);
+    }
+}
+
+static void add_write(uint64_t pins)
+{
+    uint64_t singles = below(6);
+    uint64_t endless = below(4) ? below(12) : below(300);
+    uint64_t rs = below(2);
+
+    add(START);
+    add(address(pins));
+    for (uint64_t i = 0; i < singles; i++) {
+        uint64_t data = below(3) == 0;
+        add(0x80 | data << 6 | below(64));
+        add(data ? below(256) : command());
+    }
+    add(rs << 6 | below(64));
+    for (uint64_t i = 0; i < endless; i++)
+        add(rs ? below(256) : command());
+    if (below(4))
+        add(STOP);
+}
+
+static void add_read(uint64_t pins)
+{
+    uint64_t bytes = below(4);
+    add(START);
+    add(address(pins) | 1);
+    for (uint64_t i = 0; i < bytes; i++)
+        add(READ_ACK);
+    if (below(2))
+        add(READ_NACK);
+    if (below(2))
+        add(below(256));
+    if (below(2))
+        add(READ_ACK + below(2));
+    if (below(4))
+        add(STOP);
+}
+
+/* Sets SM, leaves power-down and offers a reading. */
+static void add_measurement(uint64_t pins)
+{
+    add(START);
+    add(0x78 | pins << 1);
+    add(0x00);
+    add(0x01);
+    add(0x10);
+    add(0x0A);
+    add(0x21);
+    add(SENSOR + below(256));
+}
+
+static void add_traffic(uint64_t pins)
+{
+    switch (below(40)) {
+    case 0: add(RESET_PULSE); break;
+    case 1: case 2: add(SENSOR + below(256)); break;
+    case 3: add(START + below(5)); break;
+    case 4: case 5: add(below(256)); break;
+    case 6: case 7: add_measurement(pins); break;
+    case 8: case 9: case 10: case 11: add_read(pins); break;
+    default: add_write(pins); break;
+    }
+}
+
+static void make_list(uint64_t pins, size_t events, uint64_t refused)
+{
+    length = 0;
+    wanted = events;
+    while (length < wanted)
+        add_traffic(pins);
+    for (uint64_t i = 0; i < refused && length > 0; i++)
+        list[below(length)] = unlisted_event();
+}
+
+/* Runs on behind each refused event to the end of the list. */
+static void run_through(void)
+{
+    size_t from = 0;
+    while (from <= length) {
+        uint64_t done;
+        uint64_t refusal = compare_run(list + from, length - from, &done);
+        from += (size_t)done + 1;
+        if (refusal == 0)
+            break;
+    }
+}
+
+/* The same events by several runs, cut anywhere. */
+static void run_in_parts(void)
+{
+    size_t from = 0;
+    while (from < length) {
+        uint64_t done;
+        size_t part = (size_t)below(200);
+        if (part > length - from)
+            part = length - from;
+        uint64_t refusal = compare_run(list + from, part, &done);
+        from += (size_t)done + (refusal != 0);
+    }
+}
+
+static void try_traffic(size_t events, uint64_t refused)
+{
+    static struct state before, after;
+    uint64_t words[MOST_WORDS];
+
+    random_record(words);
+    if (below(2))
+        reset_record(words, below(4));
+    lend_usual();
+    set_record(words);
+    make_list(words[W_PINS], events, refused);
+
+    save(&before);
+    for (size_t i = 0; i < length; i++)
+        compare_step(list[i]);
+    save(&after);
+    restore(&before);
+    run_through();
+    expect_state(&after);
+    restore(&before);
+    run_in_parts();
+    expect_state(&after);
+}
+
+/* Single runs of any length up to a few hundred, from every kind of record. */
+static void try_short(int times)
+{
+    uint64_t words[MOST_WORDS];
+    uint64_t done;
+    for (int i = 0; i < times; i++) {
+        random_record(words);
+        set_record(words);
+        make_list(words[W_PINS], (size_t)below(i % 10 ? 20 : 300), below(8) == 0);
+        compare_run(list, length, &done);
+    }
+}
+
+void test_runs(void)
+{
+    theme("runs");
+    try_traffic(0, 0);
+    for (int i = 0; i < (quick ? 20 : 400); i++)
+        try_traffic((size_t)below(3000), below(3) ? below(6) : 0);
+    try_traffic(quick ? 5000 : MOST_EVENTS, 0);
+    try_short(quick ? 2000 : 200000);
+}

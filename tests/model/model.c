@@ -1,0 +1,393 @@
+#include "model.h"
+
+#include <stdbool.h>
+#include <string.h>
+
+enum { COLUMNS = 101, BANKS = 17, PLACES = COLUMNS * BANKS, LAST_PAGE = 4 };
+
+/* The words of a record, in their order. */
+enum word {
+    H, DO, PD, V, D, E, MX, MY, PS, X, Y, BS, BSH, DP, PRS, HVE, S, TC, SM, VOP,
+    GR, GS0, GS1, GS2, GS3, DOF, DM, EC, OC,
+    SA, TR, LAST_RS, PHASE, PHASE_RS, COUNT, WORDS,
+    GS = WORDS /* in the command table only: the grey register that GR selects */
+};
+
+enum phase { IDLE, ADDRESS, IGNORING, CONTROL, ONE_BYTE, ENDLESS, READING, READ_ENDED };
+
+enum event { START = 256, STOP, READ_ACK, READ_NACK, RESET_PULSE, SENSOR = 512 };
+
+enum refusal { BAD_MEMORY = 1, BAD_RECORD, BAD_EVENT, COUNT_FULL };
+
+enum answer { NOTHING = 256, ACK, NACK, BYTE_READ = 512 };
+
+/* The largest allowed value of each word but the count. */
+static const uint8_t limit[] = {
+    [H] = 4, [DO] = 1, [PD] = 1, [V] = 1, [D] = 1, [E] = 1, [MX] = 1, [MY] = 1, [PS] = 1,
+    [X] = 100, [Y] = 16, [BS] = 7, [BSH] = 1, [DP] = 7, [PRS] = 1, [HVE] = 1, [S] = 7, [TC] = 7,
+    [SM] = 1, [VOP] = 127, [GR] = 3, [GS0] = 63, [GS1] = 63, [GS2] = 63, [GS3] = 63,
+    [DOF] = 1, [DM] = 1, [EC] = 1, [OC] = 1,
+    [SA] = 3, [TR] = 255, [LAST_RS] = 1, [PHASE] = READ_ENDED, [PHASE_RS] = 1,
+    [GS] = 63
+};
+
+/* The chip while it works: every word but the count fits a byte. */
+struct chip {
+    uint8_t now[COUNT];
+    uint64_t count;
+    uint8_t *memory;
+    uint64_t *writers;
+};
+
+/* ---- The instruction table --------------------------------------------------------------- */
+
+enum { EVERY_PAGE = -1, MOST_FIELDS = 3 };
+
+/* A row of the table: 0 and 1 must stand so in the byte, a letter is a bit of a field. fields[i]
+ * goes with letters[i]; a field whose letter is not in the pattern becomes 0. */
+struct row {
+    int page;
+    const char *pattern;
+    const char *letters;
+    uint8_t fields[MOST_FIELDS];
+};
+
+static const struct row rows[] = {
+    { EVERY_PAGE, "00000000", "", { 0 } },             /* no operation */
+    { EVERY_PAGE, "00000001", "h", { H } },            /* back to page 0 */
+
+    { 0, "00001hhh", "h", { H } },                     /* select a page */
+    { 0, "0001dpv0", "dpv", { DO, PD, V } },           /* data order, power-down, address mode */
+    { 0, "010yyyyy", "y", { Y } },                     /* bank address */
+    { 0, "1xxxxxxx", "x", { X } },                     /* column address */
+
+    { 1, "000001de", "de", { D, E } },                 /* display mode */
+    { 1, "00001xyp", "xyp", { MX, MY, PS } },          /* mirroring, partial screen */
+    { 1, "00010bbb", "b", { BS } },                    /* bias system */
+    { 1, "0011100b", "b", { BSH } },                   /* bias system 1/2 */
+    { 1, "01000ppp", "p", { DP } },                    /* display part */
+
+    { 2, "000001ph", "ph", { PRS, HVE } },             /* programming range, generator */
+    { 2, "00001sss", "s", { S } },                     /* voltage multiplier */
+    { 2, "00010ttt", "t", { TC } },                    /* temperature coefficient */
+    { 2, "0010000m", "m", { SM } },                    /* temperature measurement */
+    { 2, "1vvvvvvv", "v", { VOP } },                   /* display voltage */
+
+    { 3, "010000rr", "r", { GR } },                    /* select a grey register */
+    { 3, "10gggggg", "g", { GS } },                    /* level of the selected one */
+
+    { 4, "000001od", "od", { DOF, DM } },              /* display off, direct drive */
+    { 4, "000010eo", "eo", { EC, OC } },               /* clock, oscillator calibration */
+    { 4, "010tb000", "", { 0 } },                      /* row block swapping: nothing kept */
+};
+
+/* What a command byte does: it gives these fields these values. */
+struct effect {
+    uint8_t fields;
+    uint8_t field[MOST_FIELDS];
+    uint8_t value[MOST_FIELDS];
+};
+
+static struct effect effects[LAST_PAGE + 1][256];
+static bool effects_ready;
+
+static bool matches(const char *pattern, unsigned byte)
+{
+    for (int i = 0; i < 8; i++) {
+        char bit = (byte >> (7 - i)) & 1 ? '1' : '0';
+        if ((pattern[i] == '0' || pattern[i] == '1') && pattern[i] != bit)
+            return false;
+    }
+    return true;
+}
+
+/* The bits of the byte that stand under this letter, as a number. */
+static uint8_t bits_under(const char *pattern, char letter, unsigned byte)
+{
+    unsigned value = 0;
+    for (int i = 0; i < 8; i++)
+        if (pattern[i] == letter)
+            value = value << 1 | ((byte >> (7 - i)) & 1);
+    return (uint8_t)value;
+}
+
+/* A value above the field's limit leaves the field as it is. */
+static void add_effect(struct effect *effect, const struct row *row, unsigned byte)
+{
+    for (size_t i = 0; row->letters[i] != '\0'; i++) {
+        uint8_t value = bits_under(row->pattern, row->letters[i], byte);
+        if (value > limit[row->fields[i]])
+            continue;
+        effect->field[effect->fields] = row->fields[i];
+        effect->value[effect->fields] = value;
+        effect->fields++;
+    }
+}
+
+static void fill_effects(void)
+{
+    for (int page = 0; page <= LAST_PAGE; page++)
+        for (unsigned byte = 0; byte < 256; byte++)
+            for (size_t r = 0; r < sizeof rows / sizeof rows[0]; r++)
+                if ((rows[r].page == page || rows[r].page == EVERY_PAGE)
+                    && matches(rows[r].pattern, byte))
+                    add_effect(&effects[page][byte], &rows[r], byte);
+    effects_ready = true;
+}
+
+static void take_command(struct chip *chip, uint8_t byte)
+{
+    const struct effect *effect = &effects[chip->now[H]][byte];
+    for (int i = 0; i < effect->fields; i++) {
+        unsigned field = effect->field[i];
+        if (field == GS)
+            field = GS0 + chip->now[GR];
+        chip->now[field] = effect->value[i];
+    }
+}
+
+/* ---- Display bytes ----------------------------------------------------------------------- */
+
+/* DB7 and DB0 change places, DB6 and DB1, and so on: halves, then pairs, then single bits. */
+static uint8_t swapped(uint8_t byte)
+{
+    unsigned b = byte;
+    b = (b & 0xF0) >> 4 | (b & 0x0F) << 4;
+    b = (b & 0xCC) >> 2 | (b & 0x33) << 2;
+    b = (b & 0xAA) >> 1 | (b & 0x55) << 1;
+    return (uint8_t)b;
+}
+
+/* Adds 1 to an address; past its last value it starts again at 0 and the other one moves on. */
+static void advance(uint8_t *first, uint8_t first_last, uint8_t *second, uint8_t second_last)
+{
+    if (*first < first_last) {
+        *first += 1;
+        return;
+    }
+    *first = 0;
+    *second = *second < second_last ? *second + 1 : 0;
+}
+
+static void take_display_byte(struct chip *chip, uint8_t byte)
+{
+    uint8_t *x = &chip->now[X];
+    uint8_t *y = &chip->now[Y];
+    unsigned column = chip->now[MX] ? COLUMNS - 1u - *x : *x;
+    unsigned place = COLUMNS * *y + column;
+
+    if (chip->now[DO])
+        byte = swapped(byte);
+    if (*y == BANKS - 1)
+        byte &= 0x3F;
+    chip->memory[place] = byte;
+    chip->writers[place] = chip->count;
+
+    if (chip->now[V])
+        advance(y, BANKS - 1, x, COLUMNS - 1);
+    else
+        advance(x, COLUMNS - 1, y, BANKS - 1);
+}
+
+/* ---- Bus events -------------------------------------------------------------------------- */
+
+static void enter(struct chip *chip, enum phase phase, uint8_t rs)
+{
+    chip->now[PHASE] = (uint8_t)phase;
+    chip->now[PHASE_RS] = rs;
+}
+
+static uint64_t take_address(struct chip *chip, uint8_t byte)
+{
+    if (byte >> 1 != (0x3C | chip->now[SA])) {
+        enter(chip, IGNORING, 0);
+        return NACK;
+    }
+    enter(chip, byte & 1 ? READING : CONTROL, 0);
+    return ACK;
+}
+
+static uint64_t take_control(struct chip *chip, uint8_t byte)
+{
+    uint8_t rs = (byte >> 6) & 1;
+    chip->now[LAST_RS] = rs;
+    enter(chip, byte & 0x80 ? ONE_BYTE : ENDLESS, rs);
+    return ACK;
+}
+
+static uint64_t take_written(struct chip *chip, uint8_t byte)
+{
+    uint8_t rs = chip->now[PHASE_RS];
+    if (chip->now[PHASE] == ONE_BYTE)
+        enter(chip, CONTROL, 0);
+    if (rs)
+        take_display_byte(chip, byte);
+    else
+        take_command(chip, byte);
+    return ACK;
+}
+
+static uint64_t take_byte(struct chip *chip, uint8_t byte)
+{
+    switch (chip->now[PHASE]) {
+    case ADDRESS:
+        return take_address(chip, byte);
+    case CONTROL:
+        return take_control(chip, byte);
+    case ONE_BYTE:
+    case ENDLESS:
+        return take_written(chip, byte);
+    case READING:
+    case READ_ENDED:
+        enter(chip, IGNORING, 0);
+        return NACK;
+    default: /* idle, ignoring */
+        return NACK;
+    }
+}
+
+static uint64_t take_read(struct chip *chip, bool last)
+{
+    if (chip->now[PHASE] != READING)
+        return BYTE_READ + 255;
+    if (last)
+        enter(chip, READ_ENDED, 0);
+    return BYTE_READ + (chip->now[LAST_RS] ? 255u : chip->now[TR]);
+}
+
+/* Registers, status byte, last RS and phase; the pins stay. */
+static void reset(struct chip *chip)
+{
+    for (int w = H; w <= OC; w++)
+        chip->now[w] = 0;
+    chip->now[PD] = 1;
+    chip->now[DOF] = 1;
+    chip->now[TR] = 0;
+    chip->now[LAST_RS] = 0;
+    enter(chip, IDLE, 0);
+}
+
+static void take_reading(struct chip *chip, uint8_t reading)
+{
+    if (chip->now[SM] && !chip->now[PD])
+        chip->now[TR] = reading;
+}
+
+static bool listed(unsigned event)
+{
+    return event <= RESET_PULSE || (event >= SENSOR && event < SENSOR + 256);
+}
+
+/* A refusal, with nothing changed, or an answer. */
+static uint64_t take_event(struct chip *chip, unsigned event)
+{
+    if (!listed(event))
+        return BAD_EVENT;
+    if (chip->count == UINT64_MAX)
+        return COUNT_FULL;
+    chip->count++;
+
+    if (event < 256)
+        return take_byte(chip, (uint8_t)event);
+    if (event == READ_ACK || event == READ_NACK)
+        return take_read(chip, event == READ_NACK);
+
+    if (event == START)
+        enter(chip, ADDRESS, 0);
+    else if (event == STOP)
+        enter(chip, IDLE, 0);
+    else if (event == RESET_PULSE)
+        reset(chip);
+    else
+        take_reading(chip, (uint8_t)(event - SENSOR));
+    return NOTHING;
+}
+
+static bool is_refusal(uint64_t result)
+{
+    return result <= COUNT_FULL;
+}
+
+/* ---- Words in, words out ------------------------------------------------------------------ */
+
+static bool load(struct chip *chip, const uint64_t *record, size_t record_len)
+{
+    if (record_len != WORDS)
+        return false;
+    for (int w = 0; w < COUNT; w++) {
+        if (record[w] > limit[w])
+            return false;
+        chip->now[w] = (uint8_t)record[w];
+    }
+    chip->count = record[COUNT];
+    bool phase_has_rs = chip->now[PHASE] == ONE_BYTE || chip->now[PHASE] == ENDLESS;
+    return phase_has_rs || chip->now[PHASE_RS] == 0;
+}
+
+static void store(const struct chip *chip, uint64_t *record)
+{
+    for (int w = 0; w < COUNT; w++)
+        record[w] = chip->now[w];
+    record[COUNT] = chip->count;
+}
+
+/* ---- The calls ---------------------------------------------------------------------------- */
+
+uint64_t model_reset(uint64_t *record, size_t record_len, uint64_t pins)
+{
+    struct chip chip;
+    if (record_len != WORDS || pins > limit[SA])
+        return BAD_RECORD;
+    memset(&chip, 0, sizeof chip);
+    reset(&chip);
+    chip.now[SA] = (uint8_t)pins;
+    store(&chip, record);
+    return 0;
+}
+
+uint64_t model_step(uint64_t *record, size_t record_len,
+                    uint8_t *memory, size_t memory_len,
+                    uint64_t *writers, size_t writers_len,
+                    uint16_t event)
+{
+    struct chip chip = { .memory = memory, .writers = writers };
+    if (!effects_ready)
+        fill_effects();
+    if (memory_len != PLACES || writers_len != PLACES)
+        return BAD_MEMORY;
+    if (!load(&chip, record, record_len))
+        return BAD_RECORD;
+    uint64_t result = take_event(&chip, event);
+    if (!is_refusal(result))
+        store(&chip, record);
+    return result;
+}
+
+uint64_t model_run(uint64_t *record, size_t record_len,
+                   uint8_t *memory, size_t memory_len,
+                   uint64_t *writers, size_t writers_len,
+                   const uint16_t *events, size_t events_len,
+                   uint64_t *done)
+{
+    struct chip chip = { .memory = memory, .writers = writers };
+    uint64_t refusal = 0;
+    size_t i;
+
+    if (!effects_ready)
+        fill_effects();
+    *done = 0;
+    if (memory_len != PLACES || writers_len != PLACES)
+        return BAD_MEMORY;
+    if (!load(&chip, record, record_len))
+        return BAD_RECORD;
+    for (i = 0; i < events_len; i++) {
+        uint64_t result = take_event(&chip, events[i]);
+        if (is_refusal(result)) {
+            refusal = result;
+            break;
+        }
+    }
+    store(&chip, record);
+    *done = i;
+    return refusal;
+}

@@ -1,0 +1,24 @@
+/* A second PCF8820, written from the paper alone, to hold the library against.
+ *
+ * The three calls take the same arguments, change the same buffers and give the same numbers as the
+ * calls of include/pcf8820.h. They are not meant for several threads at once. */
+#ifndef MODEL_H
+#define MODEL_H
+
+#include <stddef.h>
+#include <stdint.h>
+
+uint64_t model_reset(uint64_t *record, size_t record_len, uint64_t pins);
+
+uint64_t model_step(uint64_t *record, size_t record_len,
+                    uint8_t *memory, size_t memory_len,
+                    uint64_t *writers, size_t writers_len,
+                    uint16_t event);
+
+uint64_t model_run(uint64_t *record, size_t record_len,
+                   uint8_t *memory, size_t memory_len,
+                   uint64_t *writers, size_t writers_len,
+                   const uint16_t *events, size_t events_len,
+                   uint64_t *done);
+
+#endif
