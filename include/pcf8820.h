@@ -64,7 +64,7 @@
  *
  * Every accepted event first adds 1 to the event count; the sum is the event's number.
  *
- * Refusals
+ * Refusals by the chip (those of the glass and of drawing lists stand with their calls)
  *
  *   1  the memory or the writers are not 1,717 long
  *   2  the record is not allowed
@@ -117,6 +117,72 @@ uint64_t pcf8820_run(uint64_t *record, size_t record_len,
                      uint64_t *writers, size_t writers_len,
                      const uint16_t *events, size_t events_len,
                      uint64_t *done);
+
+/* The glass
+ *
+ * It has 67 rows and 101 columns. The two calls only look at what they are lent. Refusals, the lowest
+ * first:
+ *
+ *   1  the memory is not 1,717 long
+ *   2  the record is not allowed
+ *   5  the row is above 66 or the column above 100 */
+
+/* What a row and column of the glass show.
+ *
+ * Gives
+ *   1, 2, 5  refused
+ *   256      dark: pd or dof is set
+ *   257      undriven: partial screen, and the row is not in the part that is driven
+ *   512 + g  the level g, 0..63 */
+uint64_t pcf8820_glass(const uint64_t *record, size_t record_len,
+                       const uint8_t *memory, size_t memory_len,
+                       uint64_t row, uint64_t column);
+
+/* Which place of the memory a row and column of the glass show, lit or not.
+ *
+ * Gives
+ *   2, 5     refused
+ *   512 + p  the place p, 0..1716 */
+uint64_t pcf8820_place(const uint64_t *record, size_t record_len, uint64_t row, uint64_t column);
+
+/* Drawing lists
+ *
+ * A list is text. Its lines end with a newline each, their fields are parted by one tab, and numbers
+ * are decimal, 1 to 3 digits, with no leading zero but for 0 itself:
+ *
+ *   put COLUMN BANK BYTE      that cell becomes the byte
+ *   fill C0 C1 B0 B1 BYTE     all cells from column C0 to C1 in the banks from B0 to B1
+ *   set FIELD NUMBER          that register: do pd v d e mx my ps bs bsh dp prs hve s tc sm vop dof
+ *                             dm ec oc gs0 gs1 gs2 gs3; gsN also sets gr to N
+ *
+ * Columns and banks are places of the memory, whatever mx, v and do are. Refusals, in the order in
+ * which they are looked for:
+ *
+ *   2   the record is not allowed
+ *   9   more than 4,096 newlines
+ *   6   a line is malformed, begins with an unknown word, names an unknown field, or is the last one
+ *       and lacks its newline
+ *   7   column above 100, bank above 16, C0 above C1, B0 above B1, byte above 255, byte above 63 where
+ *       bank 16 is touched, or a number too wide for its register
+ *   8   a field whose command is not known; there is none
+ *   10  the output is too short
+ *
+ * Of 6, 7 and 8 the first bad line's is given, and the lowest if several apply to that line. */
+
+/* Turns a list into the bus events that draw it on the chip with this record, whatever its phase.
+ *
+ * Gives
+ *   0        *length events were written; on the bus they take *clocks clocks, nine for each byte
+ *   2, 9     refused
+ *   6, 7, 8  refused at line *line, counted from 1
+ *   10       refused, *length events are needed
+ *
+ * All three numbers are set in every case, those that the result does not name to 0. A refused call
+ * leaves the output unchanged, and so does an accepted one beyond its length. */
+uint64_t pcf8820_compile(const uint64_t *record, size_t record_len,
+                         const uint8_t *text, size_t text_len,
+                         uint16_t *out, size_t out_len,
+                         uint64_t *length, uint64_t *clocks, uint64_t *line);
 
 #ifdef __cplusplus
 }

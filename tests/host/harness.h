@@ -1,11 +1,12 @@
-/* The common ground of the host tests: buffers lent to the library and to the model, calls made on
- * both, and the comparison of everything they give and change.
+/* The chip's calls: reset, step and run, made on the library and on the model, and the comparison of
+ * everything they give and change.
  *
- * Each side has its own record, memory, writers, events and done number. Each of them lies in pages
- * of its own: the buffer touches either the first or the last byte of the pages, the rest is filled
- * with canaries, and a page before and after may not be touched at all. */
+ * Each side has its own record, memory, writers, events and done number. */
 #ifndef HARNESS_H
 #define HARNESS_H
+
+#include "buffers.h"
+#include "report.h"
 
 #include <stdbool.h>
 #include <stddef.h>
@@ -17,9 +18,6 @@ enum {
     MOST_EVENTS = 80000
 };
 
-/* Where a buffer lies in its pages. */
-enum where { AT_START, AT_END };
-
 /* The record and the memories, kept aside. */
 struct state {
     uint64_t record[MOST_WORDS];
@@ -27,13 +25,7 @@ struct state {
     uint64_t writers[MOST_PLACES];
 };
 
-/* True when only a sample of the calls is wanted. */
-extern bool quick;
-
 void harness_start(void);
-
-/* Names the theme that the next calls belong to, for the message at a difference. */
-void theme(const char *name);
 
 /* Lends buffers of these lengths to both sides, memory and writers with random contents. */
 void lend(size_t record_len, size_t memory_len, size_t writers_len, enum where where);
@@ -55,7 +47,5 @@ void expect_state(const struct state *state);
 uint64_t compare_reset(uint64_t pins);
 uint64_t compare_step(uint16_t event);
 uint64_t compare_run(const uint16_t *events, size_t events_len, uint64_t *done);
-
-unsigned long long calls_compared(void);
 
 #endif

@@ -2,7 +2,6 @@
 #include "harness.h"
 #include "themes.h"
 
-#include <stdio.h>
 #include <string.h>
 
 int main(int argc, char **argv)
@@ -16,6 +15,6 @@ int main(int argc, char **argv)
     test_runs();
     test_refusals();
     test_events();
-    printf("host tests: %llu calls compared, all equal\n", calls_compared());
+    report_calls("host tests");
     return 0;
 }

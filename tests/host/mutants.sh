@@ -1,57 +1,11 @@
 #!/bin/sh
-# Can the host tests fail? They are held against the model itself in the place of the library: as it
-# is, when they must pass, and with one error put into a copy of it at a time, when they must not.
-# Run from the project's root.
+# The errors that the tests of the chip must find. Run from the project's root.
 set -eu
+tests=chip
+. tests/host/mutating.sh
+stand_in tests/host/*.c
 
-cc=${CC:-gcc}
-out=target/tests/mutants
-flags='-std=c11 -Iinclude -Itests/model -Itests/host'
-mutants=0
-
-stop() {
-    echo "mutants: $*" >&2
-    exit 1
-}
-
-compile() {
-    # shellcheck disable=SC2086
-    "$cc" $flags "$@"
-}
-
-# Links the tests with this source in the place of the library.
-build() {
-    compile -O1 -w "-DMODEL=\"$1\"" -c tests/host/shim.c -o "$out/shim.o"
-    "$cc" "$out"/tests/*.o "$out/shim.o" -o "$out/host"
-}
-
-# mutant NAME EDIT: the model changed by this sed script must be found out.
-mutant() {
-    sed "$2" tests/model/model.c >"$out/mutant.c"
-    if cmp -s tests/model/model.c "$out/mutant.c"; then
-        stop "$1: the edit finds nothing to change in the model"
-    fi
-    build "$PWD/$out/mutant.c" || stop "$1: the changed model does not compile"
-    status=0
-    "$out/host" quick >"$out/log" 2>&1 || status=$?
-    if [ "$status" -ne 1 ]; then
-        cat "$out/log" >&2
-        stop "$1: NOT found by the host tests (exit $status)"
-    fi
-    echo "found: $1 ($(sed -n '1s/^host tests: //p' "$out/log"))"
-    mutants=$((mutants + 1))
-}
-
-rm -rf "$out"
-mkdir -p "$out/tests"
-for source in tests/model/model.c tests/host/*.c; do
-    if [ "$source" != tests/host/shim.c ]; then
-        compile -O2 -c "$source" -o "$out/tests/$(basename "$source" .c).o"
-    fi
-done
-
-build model.c
-"$out/host" quick || stop "the tests fail on the unchanged model"
+model=model
 
 # The errors that every class makes.
 mutant 'memory cleared at reset' \
@@ -121,4 +75,4 @@ mutant 'read past the record' \
 mutant 'events changed' \
     's/take_event(&chip, events\[i\]);/& ((uint16_t *)events)[i] = 0;/'
 
-echo "mutants: $mutants errors put in, all found"
+all_found

@@ -52,7 +52,7 @@ void reset_record(uint64_t *words, uint64_t pins)
 {
     memset(words, 0, RECORD_LEN * sizeof *words);
     words[W_PD] = 1;
-    words[25] = 1; /* dof */
+    words[W_DOF] = 1;
     words[W_PINS] = pins;
     words[RECORD_LEN] = random64();
 }

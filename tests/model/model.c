@@ -1,17 +1,13 @@
 #include "model.h"
 
-#include <stdbool.h>
+#include "words.h"
+
 #include <string.h>
 
-enum { COLUMNS = 101, BANKS = 17, PLACES = COLUMNS * BANKS, LAST_PAGE = 4 };
+enum { LAST_PAGE = 4 };
 
-/* The words of a record, in their order. */
-enum word {
-    H, DO, PD, V, D, E, MX, MY, PS, X, Y, BS, BSH, DP, PRS, HVE, S, TC, SM, VOP,
-    GR, GS0, GS1, GS2, GS3, DOF, DM, EC, OC,
-    SA, TR, LAST_RS, PHASE, PHASE_RS, COUNT, WORDS,
-    GS = WORDS /* in the command table only: the grey register that GR selects */
-};
+/* In the command table only: the grey register that GR selects. */
+enum { GS = WORDS };
 
 enum phase { IDLE, ADDRESS, IGNORING, CONTROL, ONE_BYTE, ENDLESS, READING, READ_ENDED };
 
@@ -332,6 +328,12 @@ static void store(const struct chip *chip, uint64_t *record)
 }
 
 /* ---- The calls ---------------------------------------------------------------------------- */
+
+bool model_allowed(const uint64_t *record, size_t record_len)
+{
+    struct chip chip;
+    return load(&chip, record, record_len);
+}
 
 uint64_t model_reset(uint64_t *record, size_t record_len, uint64_t pins)
 {

@@ -1,10 +1,11 @@
 /* A second PCF8820, written from the paper alone, to hold the library against.
  *
- * The three calls take the same arguments, change the same buffers and give the same numbers as the
- * calls of include/pcf8820.h. They are not meant for several threads at once. */
+ * Reset, step and run take the same arguments, change the same buffers and give the same numbers as
+ * the calls of include/pcf8820.h. They are not meant for several threads at once. */
 #ifndef MODEL_H
 #define MODEL_H
 
+#include <stdbool.h>
 #include <stddef.h>
 #include <stdint.h>
 
@@ -20,5 +21,8 @@ uint64_t model_run(uint64_t *record, size_t record_len,
                    uint64_t *writers, size_t writers_len,
                    const uint16_t *events, size_t events_len,
                    uint64_t *done);
+
+/* Whether these words stand for a chip's record. */
+bool model_allowed(const uint64_t *record, size_t record_len);
 
 #endif

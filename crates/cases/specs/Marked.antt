@@ -1,16 +1,19 @@
 -- Document 01, "Worked and marked": the marked cases, one table. Each is a test of the definitions that antt computes.
 use mathlib.Core.Bool.{Bool, true, false, _&&_}
 use mathlib.Core.List.{List, [], _∷_}
-use Prim.Native.Nat.{ℕ, _+_, _*_}
-use lib.Dec.{eqb}
-use lib.ListN.{getD, replicate}
+use Prim.Native.Nat.{ℕ, suc, _+_, _*_}
+use lib.Dec.{leb, eqb}
+use lib.ListN.{getD, set, replicate}
 use Rattle.registers.specs.declared.Registers.{Registers}
 use Rattle.registers.specs.declared.Chip.{Chip}
 use Rattle.registers.specs.declared.Phase.the-variants.{EndlessBytes}
-use Rattle.registers.specs.Places.{DO, X, Y, «V»}
+use Rattle.registers.specs.Places.{DO, PD, «V», D, E, MY, PS, X, Y, DP, GS0, GS1, GS2, GS3, DOF}
 use Rattle.registers.specs.Record.{values, put, resetRegisters, resetChip, inPhase, withRegisters}
 use Rattle.registers.specs.State.{State, state, places}
 use Rattle.engine.specs.Step.{stepOf}
+use Rattle.glass.specs.Pixel.{Pixel, dark, undriven, uses, placeAt, pixelOf}
+use Rattle.glass.specs.Answer.{shownNumber}
+use Rattle.glass.specs.Glass.{ramRowOf, glassOf}
 
 -- a register and its value
 pub record Setting : Type 0 where
@@ -28,6 +31,10 @@ pub data Case : Type 0 where
   command : List Setting → ℕ → List Setting → Case
   -- after reset, with these registers set, this display byte is stored so at this place
   stored : List Setting → ℕ → ℕ → ℕ → Case
+  -- after reset, with these registers set and A7h in column 5 of bank 2, the rows of the glass from this one on use these grey registers in that column
+  greys : List Setting → ℕ → List ℕ → Case
+  -- after reset, with these registers set, these rows of the glass are driven, and those are not
+  driven : List Setting → List ℕ → List ℕ → Case
 
 -- ---- what a case says
 
@@ -44,10 +51,47 @@ abbrev pub prepared : List Setting → Bool → State
 prepared before rs =
     state (withRegisters (inPhase (resetChip 0) (EndlessBytes rs)) (withSettings before resetRegisters)) (replicate places 0) (replicate places 0)
 
+-- the cell of the first worked stream
+abbrev pub oneCell : List ℕ
+oneCell = set (replicate places 0) (101 * 2 + 5) 0xA7
+
+-- a chip after reset with these registers set, and with grey registers that can be told apart
+abbrev pub viewed : List Setting → Chip
+viewed before =
+    withRegisters (resetChip 0) (withSettings before (withSettings (GS0 is 40 ∷ GS1 is 41 ∷ GS2 is 42 ∷ GS3 is 43 ∷ []) resetRegisters))
+
+abbrev pub pixel : Chip → ℕ → Pixel
+pixel c row = pixelOf (c .registers) (ramRowOf c row) (getD oneCell (placeAt (ramRowOf c row) 5) 0)
+
+abbrev pub usesRegister : ℕ → Pixel → Bool
+usesRegister g dark = false
+usesRegister g undriven = false
+usesRegister g (uses f) = eqb f g
+
+-- what a row shows in the cell's column, as a number
+abbrev pub shows : Chip → ℕ → ℕ
+shows c row = shownNumber (glassOf c oneCell row 5)
+
+-- each row's register is used, and its level is shown
+abbrev pub useThese : Chip → ℕ → List ℕ → Bool
+useThese c row [] = true
+useThese c row (g ∷ gs) = usesRegister g (pixel c row) && eqb (shows c row) (512 + 40 + g) && useThese c (suc row) gs
+
+-- a row that is driven shows a level
+abbrev pub allDriven : Chip → List ℕ → Bool
+allDriven c [] = true
+allDriven c (row ∷ rows) = leb 512 (shows c row) && allDriven c rows
+
+abbrev pub noneDriven : Chip → List ℕ → Bool
+noneDriven c [] = true
+noneDriven c (row ∷ rows) = eqb (shows c row) 257 && noneDriven c rows
+
 unfoldable pub holds : Case → Bool
 holds (counter before after) = agrees after (stepOf 0 (prepared before true) .state .chip .registers)
 holds (command before b after) = agrees after (stepOf b (prepared before false) .state .chip .registers)
 holds (stored before b k n) = eqb (getD (stepOf b (prepared before true) .state .memory) k 0) n
+holds (greys before row gs) = useThese (viewed before) row gs
+holds (driven before rows others) = allDriven (viewed before) rows && noneDriven (viewed before) others
 
 unfoldable pub allHold : List Case → Bool
 allHold [] = true
@@ -64,8 +108,16 @@ marked =
     -- X 100, Y 16: 0, 0 for each V
     ∷ counter («V» is 0 ∷ X is 100 ∷ Y is 16 ∷ []) (X is 0 ∷ Y is 0 ∷ [])
     ∷ counter («V» is 1 ∷ X is 100 ∷ Y is 16 ∷ []) (X is 0 ∷ Y is 0 ∷ [])
+    -- that cell in mode 10, with PD, DOF, PS and MY 0: rows 8, 9, 10, 11 use registers 3, 1, 2, 2
+    ∷ greys (D is 1 ∷ E is 0 ∷ PD is 0 ∷ DOF is 0 ∷ PS is 0 ∷ MY is 0 ∷ []) 8 (3 ∷ 1 ∷ 2 ∷ 2 ∷ [])
+    -- mode 11: 0, 2, 1, 1
+    ∷ greys (D is 1 ∷ E is 1 ∷ PD is 0 ∷ DOF is 0 ∷ PS is 0 ∷ MY is 0 ∷ []) 8 (0 ∷ 2 ∷ 1 ∷ 1 ∷ [])
+    -- mode 10, MY = 1: glass row 58 uses register 3
+    ∷ greys (D is 1 ∷ E is 0 ∷ PD is 0 ∷ DOF is 0 ∷ PS is 0 ∷ MY is 1 ∷ []) 58 (3 ∷ [])
     -- X command E5h (101): X kept
     ∷ command (X is 5 ∷ []) 0xE5 (X is 5 ∷ [])
     -- bank 16, DO 0, FFh: stored 3Fh
     ∷ stored (DO is 0 ∷ Y is 16 ∷ []) 0xFF (101 * 16) 0x3F
+    -- PS 1, DP 111, MY 1: glass rows 3..10 driven, 2 and 11 not
+    ∷ driven (PD is 0 ∷ DOF is 0 ∷ PS is 1 ∷ DP is 0b111 ∷ MY is 1 ∷ []) (3 ∷ 4 ∷ 5 ∷ 6 ∷ 7 ∷ 8 ∷ 9 ∷ 10 ∷ []) (2 ∷ 11 ∷ [])
     ∷ []

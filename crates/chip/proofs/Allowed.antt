@@ -52,6 +52,7 @@ nextY-bound true x y h = next-bound y 16 h
 nextY-bound false x y h = wrap-bound (ltb x 100) y 16 h
 
 pub next-allowed : (r : Registers) → allowedRegisters r ≡ true → allowedRegisters (nextAddress r) ≡ true
+unfolding nextAddress
 next-allowed r h =
     put-allowed Y (nextY (r .v) (r .x) (r .y)) (put X (nextX (r .v) (r .x) (r .y)) r)
     (nextY-bound (eqb (r .v) 1) (r .x) (r .y) (register-bound r h Y))

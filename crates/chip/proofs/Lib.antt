@@ -2,5 +2,8 @@ pub mod Allowed
 pub mod Events
 pub mod LastWriter
 pub mod Laws
+pub mod Paint
+pub mod Plays
 pub mod Refusals
+pub mod Rows
 pub mod Runs

@@ -16,6 +16,7 @@ column-bound true x h = omega arith
 column-bound false x h = h
 
 pub place-bound : (r : Registers) → r .x ≤ 100 → r .y ≤ 16 → placeOf r < 1717
+unfolding placeOf
 place-bound r hx hy = omega (arith, column-bound (eqb (r .mx) 1) (r .x) hx)
 
 -- of what 1 and 2 let pass

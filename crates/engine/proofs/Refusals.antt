@@ -3,7 +3,7 @@ use mathlib.Core.Path.{_≡_, refl, sym, _∙_, ap, subst}
 use mathlib.Core.Bool.{Bool, true, false, not, cond, _&&_, _||_}
 use Prim.Native.Nat.{ℕ, zero, suc, _-_, _^_}
 use native.Mathlib.Nat.{suc-ne-zero}
-use borrow.Author.Tests.{eqb-true, eqb-false, not-false}
+use borrow.Author.Tests.{eqb-true, eqb-false, eq-eqb, not-false}
 use lib.Dec.{eqb}
 use lib.ListN.{length}
 use Rattle.registers.specs.Record.{allowed}
@@ -56,3 +56,6 @@ accepts e s h =
       listed = not-false _ (refuse-none _ 2 (later .0));
       room = eqb-false _ _ (refuse-none _ 3 (later .1));
     }
+
+pub fit-entry : (s : State) → Fit s → entryRefusal s ≡ 0
+fit-entry s fit = simp (eq-eqb _ _ (fit .memory-long), eq-eqb _ _ (fit .writers-long), fit .is-allowed)

@@ -5,23 +5,19 @@ use lib.Dec.{ltb, eqb}
 use Rattle.registers.specs.declared.Registers.{Registers}
 use Rattle.registers.specs.Places.{X, Y}
 use Rattle.registers.specs.Record.{put}
-use Rattle.registers.specs.Reversed.{reversedOf}
+use Rattle.registers.specs.Reversed.{ordered}
 
--- first the swap of DO = 1
-abbrev pub ordered : ℕ → ℕ → ℕ
-ordered dataOrder b = cond (eqb dataOrder 1) (reversedOf b) b
-
--- then bank 16 keeps six bits
+-- after the swap of DO = 1, bank 16 keeps six bits
 abbrev pub kept : ℕ → ℕ → ℕ
 kept bank b = cond (eqb bank 16) (b % 64) b
 
-abbrev pub storedOf : Registers → ℕ → ℕ
+unfoldable pub storedOf : Registers → ℕ → ℕ
 storedOf r b = kept (r .y) (ordered (r .«data_order») b)
 
 abbrev pub columnOf : Registers → ℕ
 columnOf r = cond (eqb (r .mx) 1) (100 - r .x) (r .x)
 
-abbrev pub placeOf : Registers → ℕ
+unfoldable pub placeOf : Registers → ℕ
 placeOf r = 101 * r .y + columnOf r
 
 -- the number after n, with 0 after the last
@@ -39,5 +35,5 @@ nextX v x y = cond (eqb v 1) (nextOnWrap y 16 x 100) (next x 100)
 abbrev pub nextY : ℕ → ℕ → ℕ → ℕ
 nextY v x y = cond (eqb v 1) (next y 16) (nextOnWrap x 100 y 16)
 
-abbrev pub nextAddress : Registers → Registers
+unfoldable pub nextAddress : Registers → Registers
 nextAddress r = put Y (nextY (r .v) (r .x) (r .y)) (put X (nextX (r .v) (r .x) (r .y)) r)

@@ -2,7 +2,8 @@
 ghost use mathlib.Core.Path.{_≡_};
 ghost use Prim.Native.Nat.{_<_, _≤_};
 ghost use lib.ListN.{length, set};
-ghost use Rattle.engine.specs.Display.{ordered, kept, storedOf, columnOf, placeOf, next, nextOnWrap, nextAddress};
+ghost use Rattle.registers.specs.Reversed.{ordered};
+ghost use Rattle.engine.specs.Display.{kept, storedOf, columnOf, placeOf, next, nextOnWrap, nextAddress};
 use registers::Registers;
 
 // DO = 1 swaps the bit order.

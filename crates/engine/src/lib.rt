@@ -1,5 +1,6 @@
 // The inside of the chip: what an event does, and a run of events. Other crates go by what `chip` promises of it.
 pub mod answer;
+mod apply;
 mod byte;
 mod command;
 mod display;

@@ -35,7 +35,7 @@ pub fn run(chip: Chip, memory: &mut [u8], writers: &mut [u64], events: &[u16]) -
                 chip: now_chip,
             };
         }
-        let stepped = crate::step::accept(event, now_chip, memory, writers);
+        let stepped = crate::apply::accept(event, now_chip, memory, writers);
         now_chip = stepped.chip;
         done += 1;
     }

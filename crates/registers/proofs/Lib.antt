@@ -4,3 +4,4 @@ pub mod TableTest
 pub mod Within
 pub mod Parts
 pub mod Put
+pub mod Encode

@@ -5,3 +5,4 @@ pub mod Table
 pub mod Data
 pub mod Listed
 pub mod State
+pub mod Encode

@@ -81,6 +81,10 @@ ofValues l =
 abbrev pub put : ℕ → ℕ → Registers → Registers
 put f n r = ofValues (set (values r) f n)
 
+-- the registers but H, X and Y, which are blanked: what a drawing list can say something of
+abbrev pub blank : Registers → Registers
+blank r = put 0 0 (put 9 0 (put 10 0 r))
+
 abbrev pub resetRegisters : Registers
 resetRegisters = ofValues resets
 

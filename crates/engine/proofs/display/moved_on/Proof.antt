@@ -1,3 +1,4 @@
+use Rattle.engine.specs.Display.{nextAddress}
 use borrow.Author.Tests.{eq-eqb, ne-eqb, lt-ltb, le-ltb, le-leb, lt-leb}
 use borrow.Author.Needs.{needs}
 use Rattle.engine.proofs.display.moved_on.Statement.{statement}
@@ -25,10 +26,12 @@ following-on-wrap-requires-2 c κs = search needs
 
 -- src/display.rt:70:1
 returns : tie.Need-returns
+unfolding nextAddress
 returns c = simp (eq-eqb _ _ (c .before .before .if1 .taken), c .before .following-on-wrap .ensures, c .following .ensures)
 
 -- src/display.rt:70:1
 returns-2 : tie.Need-returns-2
+unfolding nextAddress
 returns-2 c = simp (ne-eqb _ _ (c .before .before .if1 .left), c .before .following2 .ensures, c .following-on-wrap2 .ensures)
 
 pub moved-on-spec : {M : Type 1} → statement M

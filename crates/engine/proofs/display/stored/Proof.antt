@@ -1,4 +1,4 @@
-use Rattle.engine.specs.Display.{kept}
+use Rattle.engine.specs.Display.{kept, storedOf}
 use mathlib.Core.Path.{_∙_, ap}
 use borrow.Author.Needs.{needs}
 use Rattle.engine.proofs.display.stored.Statement.{statement}
@@ -18,6 +18,7 @@ kept-in-bank-requires c κs = search needs
 
 -- src/display.rt:27:1
 returns : tie.Need-returns
+unfolding storedOf
 returns c = c .kept-in-bank .ensures ∙ ap (kept (c .before .before .args .registers .y)) (c .before .in-order .ensures)
 
 pub stored-spec : {M : Type 1} → statement M

@@ -13,7 +13,7 @@ use Rattle.engine.proofs.run.run.Reads as reads
 use Rattle.engine.proofs.run.run.Lts as lts
 use Rattle.engine.proofs.refusal.at_entry.Reads as at-entry-reads
 use Rattle.engine.proofs.refusal.of_event.Reads as of-event-reads
-use Rattle.engine.proofs.step.accept.Reads as accept-reads
+use Rattle.engine.proofs.apply.accept.Reads as accept-reads
 
 abbrev Inv-loop : tie.InvT-loop
 Inv-loop memory₀ writers₀ events entry now-chip₀ done₀ memory writers now-chip done =

@@ -7,7 +7,7 @@ use Rattle.engine.proofs.step.step.Tie as tie
 use Rattle.engine.proofs.step.step.Reads as reads
 use Rattle.engine.proofs.step.step.Lts as lts
 use Rattle.engine.proofs.refusal.of_event.Reads as of-event-reads
-use Rattle.engine.proofs.step.accept.Reads as accept-reads
+use Rattle.engine.proofs.apply.accept.Reads as accept-reads
 
 -- src/step.rt:74:9
 of-event-requires : tie.Need-of-event-requires

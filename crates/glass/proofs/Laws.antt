@@ -1,0 +1,117 @@
+-- What is promised of the glass, in one place: read this file first. The work stands in the files beside it.
+use mathlib.Core.Path.{_≡_, sym, ap, ap₂, _∙_}
+use mathlib.Core.Bool.{true, cond, not}
+use mathlib.Core.List.{List}
+use mathlib.Core.Logic.{_⊎_, _↔_}
+use Prim.Native.Nat.{ℕ, suc, _/_, _%_, _-_, _≤_, _<_}
+use lib.Dec.{eqb}
+use lib.ListN.{length, getD}
+use Rattle.registers.specs.declared.Chip.{Chip}
+use Rattle.registers.specs.Places.{MX, MY}
+use Rattle.registers.specs.Record.{allowed}
+use Rattle.registers.specs.State.{places}
+use Rattle.glass.specs.declared.answer.Shown.the-variants as shown
+use Rattle.glass.specs.declared.answer.Cell.the-variants as cell
+use Rattle.glass.specs.Pixel.{dark, uses, placeAt, pixelOf, levelOf}
+use Rattle.glass.specs.Changed.{changed}
+use Rattle.glass.specs.Glass.{placeRefusal, glassRefusal, ramRowOf, cellUnless, cellOf, shownOf, shownAt, shownUnless, glassOf}
+use Rattle.glass.specs.When.{PlaceWhen, GlassWhen}
+use Rattle.glass.proofs.Pixels.{ram-bound, place-of}
+use Rattle.glass.proofs.Refusals.{place-exactly, glass-exactly}
+use Rattle.glass.proofs.Views.{changed-refusal, mirrored-refusal, flipped-row, my-bound, refused-by, refused-place-by, found-at, shown-through, never-refused, dark-either, dark-by, level-bound}
+
+-- ---- refusals and answers
+
+module _ (c : Chip) (row column : ℕ) where
+  -- each number comes exactly when document 01's table says
+  pub place-refused-when : (k : ℕ) → (cellOf c row column ≡ cell.Refused (suc k)) ↔ PlaceWhen c row column (suc k)
+  unfolding cellOf
+  place-refused-when k =
+      (λ e. place-exactly c row column (suc k) .0 (refused-place-by _ k _ e), λ w. rw (place-exactly c row column (suc k) .1 w))
+
+  -- else there is a place, within the memories, in the row's bank and the column
+  pub place-shown : PlaceWhen c row column 0 → cellOf c row column ≡ cell.At (placeAt (ramRowOf c row) column)
+  unfolding cellOf
+  place-shown w = rw (place-exactly c row column 0 .1 w)
+
+  pub place-within : (p : ℕ) → cellOf c row column ≡ cell.At p → (p < places) × (p / 101 ≡ ramRowOf c row / 4) × (p % 101 ≡ column)
+  unfolding cellOf
+  place-within p e =
+      let found = found-at _ _ p e in
+      let on = place-exactly c row column 0 .0 (found .0) .1 in
+      place-of (ramRowOf c row) column p (ram-bound (c .registers .my) row (on .row-there)) (on .column-there) (found .1)
+
+module _ (c : Chip) (m : List ℕ) (row column : ℕ) where
+  pub glass-refused-when : (k : ℕ) → (glassOf c m row column ≡ shown.Refused (suc k)) ↔ GlassWhen c (length m) row column (suc k)
+  unfolding glassOf
+  glass-refused-when k = (
+    λ e. glass-exactly c (length m) row column (suc k) .0 (refused-by _ k (levelOf (c .registers)) (pixelOf (c .registers) (ramRowOf c row) _) e),
+    λ w. rw (glass-exactly c (length m) row column (suc k) .1 w),
+  )
+
+  -- a level is 0 to 63
+  pub level-within : (g : ℕ) → glassOf c m row column ≡ shown.Level g → g ≤ 63
+  unfolding glassOf
+  level-within g e =
+      let through = shown-through (glassRefusal c (length m) row column) _ (shown.Level g) (never-refused (λ f. g) (uses 0)) e in
+      level-bound c (glass-exactly c (length m) row column 0 .0 (through .0) .1) (pixelOf (c .registers) (ramRowOf c row) _) g (through .1)
+
+  -- the pixel's value stands in the byte at its place, and nothing else of the memory is shown
+  pub stands-in-byte :
+      (p : ℕ) → length m ≡ places → cellOf c row column ≡ cell.At p
+      → glassOf c m row column ≡ shownOf (c .registers) (ramRowOf c row) (getD m p 0)
+  unfolding cellOf glassOf
+  stands-in-byte p l e =
+      let found = found-at _ _ p e in
+      let on = place-exactly c row column 0 .0 (found .0) in
+      rw (glass-exactly c (length m) row column 0 .1 (l, on .0, on .1))
+      (ap (λ (q : ℕ). shownOf (c .registers) (ramRowOf c row) (getD m q 0)) (found .1))
+
+  -- PD or DOF darken all, and nothing else does
+  pub dark-when : (glassOf c m row column ≡ shown.Dark) ↔ (GlassWhen c (length m) row column 0 × ((c .registers .pd ≡ 1) ⊎ (c .registers .dof ≡ 1)))
+  unfolding glassOf
+  dark-when = (
+    λ e. let through = shown-through (glassRefusal c (length m) row column) _ shown.Dark (never-refused (levelOf (c .registers)) dark) e in (
+      glass-exactly c (length m) row column 0 .0 (through .0),
+      dark-by (levelOf (c .registers)) (c .registers) (ramRowOf c row) _ (through .1),
+    ),
+    λ w. rw (glass-exactly c (length m) row column 0 .1 (w .0), dark-either (c .registers) (w .1)),
+  )
+
+-- two memories that agree at a pixel's place show the same pixel
+pub one-byte :
+    (c : Chip) (m n : List ℕ) (row column p : ℕ) → length m ≡ length n → cellOf c row column ≡ cell.At p → getD m p 0 ≡ getD n p 0
+    → glassOf c m row column ≡ glassOf c n row column
+unfolding cellOf glassOf
+one-byte c m n row column p l e h =
+    let at-p : placeAt (ramRowOf c row) column ≡ p = found-at (placeRefusal c row column) _ p e .1 in
+    ap₂ (λ (k byte : ℕ). shownUnless (glassRefusal c k row column) (shownOf (c .registers) (ramRowOf c row) byte)) l
+    (ap (λ (q : ℕ). getD m q 0) at-p ∙ h ∙ sym (ap (λ (q : ℕ). getD n q 0) at-p))
+
+-- ---- mirrors
+
+module _ (c : Chip) (is-allowed : allowed c ≡ true) (row column : ℕ) where
+  -- flipping MY mirrors the picture: a row then shows what row 66 − row showed
+  pub my-mirrors-place : row ≤ 66 → cellOf (changed MY (1 - c .registers .my) c) row column ≡ cellOf c (66 - row) column
+  unfolding cellOf
+  my-mirrors-place h =
+      ap₂ (λ (x ram : ℕ). cellUnless x (cell.At (placeAt ram column))) (mirrored-refusal c is-allowed row column h)
+      (flipped-row (c .registers .my) row (my-bound c is-allowed) h)
+
+  pub my-mirrors : (m : List ℕ) → row ≤ 66 → glassOf (changed MY (1 - c .registers .my) c) m row column ≡ glassOf c m (66 - row) column
+  unfolding glassOf glassRefusal
+  my-mirrors m h =
+      ap₂ (λ (x ram : ℕ). shownUnless (cond (not (eqb (length m) places)) 1 x) (shownAt (c .registers) m ram column)) (mirrored-refusal c is-allowed row column h)
+      (flipped-row (c .registers .my) row (my-bound c is-allowed) h)
+
+  -- changing MX changes nothing that is shown
+  pub mx-unseen-place : (n : ℕ) → n ≤ 1 → cellOf (changed MX n c) row column ≡ cellOf c row column
+  unfolding cellOf
+  mx-unseen-place n h =
+      ap (λ (x : ℕ). cellUnless x (cell.At (placeAt (ramRowOf c row) column))) (changed-refusal MX n c h is-allowed row column)
+
+  pub mx-unseen : (m : List ℕ) (n : ℕ) → n ≤ 1 → glassOf (changed MX n c) m row column ≡ glassOf c m row column
+  unfolding glassOf glassRefusal
+  mx-unseen m n h =
+      ap (λ (x : ℕ). shownUnless (cond (not (eqb (length m) places)) 1 x) (shownAt (c .registers) m (ramRowOf c row) column))
+      (changed-refusal MX n c h is-allowed row column)

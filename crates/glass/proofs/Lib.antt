@@ -1,0 +1,5 @@
+pub mod Pixels
+pub mod Refusals
+pub mod Ways
+pub mod Views
+pub mod Laws

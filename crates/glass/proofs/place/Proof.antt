@@ -1,0 +1,30 @@
+use native.Mathlib.Omega.{arith}
+use Rattle.glass.proofs.Ways.{place-accepts, place-refused, place-found}
+use borrow.Author.Needs.{needs}
+use Rattle.glass.proofs.place.Statement.{statement}
+use Rattle.glass.proofs.place.Tie as tie
+
+of-place-requires : tie.Need-of-place-requires
+of-place-requires c κs = search needs
+
+returns : tie.Need-returns
+returns c = place-refused _ _ _ _ (c .before .of-place .ensures) (c .if1 .taken)
+
+ram-row-requires : tie.Need-ram-row-requires
+ram-row-requires c κs = place-accepts _ _ _ _ (c .before .before .of-place .ensures) (c .before .if1 .left) .1 .row-there
+
+place-at-requires : tie.Need-place-at-requires
+place-at-requires c κs = (c .ram-row .ensures .1, place-accepts _ _ _ _ (c .before .before .before .of-place .ensures) (c .before .before .if1 .left) .1 .column-there)
+
+cast-t9 : tie.Need-cast-t9
+cast-t9 c =
+    omega (arith, place-accepts _ _ _ _ (c .before .before .before .before .of-place .ensures) (c .before .before .before .if1 .left) .1 .column-there, c .before .ram-row .ensures .1, c .place-at .ensures)
+
+returns-2 : tie.Need-returns-2
+returns-2 c =
+    place-found _ _ _ _ (c .before .before .before .before .of-place .ensures) _ _ (c .before .before .before .if1 .left) (c .before .ram-row .ensures .0) (c .place-at .ensures)
+
+pub place-spec : {M : Type 1} → statement M
+place-spec =
+    tie.close
+    (tie.spec of-place-requires returns ram-row-requires place-at-requires cast-t9 returns-2)

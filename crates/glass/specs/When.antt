@@ -1,0 +1,42 @@
+-- Document 01, "Numbers given back", 1, 2 and 5: exactly when each refusal of the glass comes.
+use mathlib.Core.Bool.{true, false}
+use mathlib.Core.List.{List, [], _∷_}
+use mathlib.Core.Path.{_≡_}
+use Prim.Native.Nat.{ℕ, _≤_}
+use lib.ListN.{getD}
+use Rattle.registers.specs.declared.Chip.{Chip}
+use Rattle.registers.specs.Record.{allowed}
+use Rattle.registers.specs.State.{places}
+
+-- the glass has 67 rows and 101 columns
+pub record OnGlass (row column : ℕ) : Type 0 where
+  pub row-there : row ≤ 66
+  pub column-there : column ≤ 100
+
+-- the conditions of 0 (no refusal) to 5: 3 and 4 are the bus's, and without a memory there is no 1
+abbrev pub placeConditions : Chip → ℕ → ℕ → List (Type 0)
+placeConditions c row column =
+    ((allowed c ≡ true) × OnGlass row column)
+    ∷ ⊥
+    ∷ (allowed c ≡ false)
+    ∷ ⊥
+    ∷ ⊥
+    ∷ ((allowed c ≡ true) × (OnGlass row column → ⊥))
+    ∷ []
+
+abbrev pub glassConditions : Chip → ℕ → ℕ → ℕ → List (Type 0)
+glassConditions c memoryLength row column =
+    ((memoryLength ≡ places) × (allowed c ≡ true) × OnGlass row column)
+    ∷ (memoryLength ≡ places → ⊥)
+    ∷ ((memoryLength ≡ places) × (allowed c ≡ false))
+    ∷ ⊥
+    ∷ ⊥
+    ∷ ((memoryLength ≡ places) × (allowed c ≡ true) × (OnGlass row column → ⊥))
+    ∷ []
+
+-- what holds where the refusal is k
+abbrev pub PlaceWhen : Chip → ℕ → ℕ → ℕ → Type 0
+PlaceWhen c row column k = getD (placeConditions c row column) k ⊥
+
+abbrev pub GlassWhen : Chip → ℕ → ℕ → ℕ → ℕ → Type 0
+GlassWhen c memoryLength row column k = getD (glassConditions c memoryLength row column) k ⊥

@@ -1,0 +1,99 @@
+// One pixel: where its value stands in the memory, whether it is lit, by which grey register, and that register's level.
+ghost use mathlib.Core.Path.{_≡_};
+ghost use Prim.Native.Nat.{_<_, _≤_};
+ghost use Rattle.glass.specs.Pixel.{ramRow, placeAt, valueIn, isOff, isDriven, isUndriven, registerUsed, levelOf};
+ghost use Rattle.glass.specs.Glass.{shownOf};
+use crate::answer::Shown;
+use registers::Registers;
+
+// MY = 1 turns the glass upside down.
+pub fn ram_row(my: u8, row: usize) -> usize
+    requires { ⌜ row ≤ 66 ⌝ }
+    ensures { λ r. ⌜ r ≡ ramRow my row ⌝ }
+    ensures { λ r. ⌜ r ≤ 66 ⌝ }
+{
+    if my == 1 { 66 - row } else { row }
+}
+
+// A bank has four rows. MX is not asked: it moves bytes as they are written.
+pub fn place_at(ram: usize, column: usize) -> usize
+    requires { ⌜ ram ≤ 66 ⌝ }
+    requires { ⌜ column ≤ 100 ⌝ }
+    ensures { λ r. ⌜ r ≡ placeAt ram column ⌝ }
+{
+    101 * (ram / 4) + column
+}
+
+// Two bits for each of a bank's four rows, the first row's lowest.
+fn value_in(byte: u8, k: usize) -> u8
+    requires { ⌜ k < 4 ⌝ }
+    ensures { λ r. ⌜ r ≡ valueIn byte k ⌝ }
+{
+    match k {
+        0 => byte % 4,
+        1 => byte / 4 % 4,
+        2 => byte / 16 % 4,
+        _ => byte / 64,
+    }
+}
+
+fn is_off(registers: Registers) -> bool
+    ensures { λ r. ⌜ r ≡ isOff registers ⌝ }
+{
+    (registers.pd == 1) | (registers.dof == 1)
+}
+
+// The eight rows that a partial display drives, if DP names any.
+fn is_driven(dp: u8, ram: usize) -> bool
+    ensures { λ r. ⌜ r ≡ isDriven dp ram ⌝ }
+{
+    ((dp == 0b000) & (ram <= 7)) | ((dp == 0b111) & (56 <= ram) & (ram <= 63))
+}
+
+fn is_undriven(ps: u8, dp: u8, ram: usize) -> bool
+    ensures { λ r. ⌜ r ≡ isUndriven ps dp ram ⌝ }
+{
+    (ps == 1) & !is_driven(dp, ram)
+}
+
+// Modes 00 and 01 show register 0 or 3 everywhere, 10 each value in its own register, 11 the same inverted.
+fn register_used(d: u8, e: u8, value: u8) -> u8
+    requires { ⌜ value ≤ 3 ⌝ }
+    ensures { λ r. ⌜ r ≡ registerUsed d e value ⌝ }
+{
+    if d == 0 {
+        if e == 0 { 0 } else { 3 }
+    } else if e == 0 {
+        value
+    } else {
+        3 - value
+    }
+}
+
+// The register's number. There is no register past the four, and no pixel uses one.
+fn level(registers: Registers, register: u8) -> u8
+    ensures { λ r. ⌜ r ≡ levelOf registers register ⌝ }
+{
+    match register {
+        0 => registers.gs0,
+        1 => registers.gs1,
+        2 => registers.gs2,
+        3 => registers.gs3,
+        _ => 0,
+    }
+}
+
+// What a RAM row shows of the byte at its place.
+pub fn shown(registers: Registers, ram: usize, byte: u8) -> Shown
+    ensures { λ r. ⌜ r ≡ shownOf registers ram byte ⌝ }
+{
+    if is_off(registers) {
+        return Shown::Dark;
+    }
+    if is_undriven(registers.ps, registers.dp, ram) {
+        return Shown::Undriven;
+    }
+    let value = value_in(byte, ram % 4);
+    let register = register_used(registers.d, registers.e, value);
+    Shown::Level(level(registers, register))
+}

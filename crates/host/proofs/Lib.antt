@@ -1,0 +1,7 @@
+pub mod Lists
+pub mod Stands
+pub mod Across
+pub mod Ways
+pub mod Boundary
+pub mod Laws
+pub mod Views

@@ -1,0 +1,78 @@
+-- The three calls of a C host, on numbers and buffers: what each gives back, and how it leaves what was lent. Every input has its outcome.
+use mathlib.Core.Bool.{cond, not, _&&_, _||_}
+use mathlib.Core.List.{List}
+use Prim.Native.Nat.{ℕ, _-_, _^_}
+use lib.Dec.{leb, eqb}
+use lib.ListN.{length, getD}
+use Rattle.registers.specs.Record.{resetChip}
+use Rattle.registers.specs.State.{state, places}
+use Rattle.engine.specs.Event.{eventOf, isListed, numberOf}
+use Rattle.engine.specs.Step.{After, stepOf, refuse, _then_}
+use Rattle.engine.specs.Run.{Outcome, runOf}
+use Rattle.host.specs.Words.{COUNT, standsFor, chipOf, wordsOf}
+
+-- words that stand for no record: 2, unless a lent memory has another length, since 1 comes first
+abbrev pub noRecordFor : ℕ → ℕ → ℕ
+noRecordFor memoryLength writersLength = refuse (not (eqb memoryLength places) || not (eqb writersLength places)) 1 then 2
+
+abbrev pub noRecord : List ℕ → List ℕ → ℕ
+noRecord memory writers = noRecordFor (length memory) (length writers)
+
+-- ---- pcf8820_reset
+
+-- the number given back, and the record's words
+pub record Reset : Type 0 where
+  pub number : ℕ
+  pub words : List ℕ
+
+abbrev pub reset : ℕ → List ℕ → Reset
+reset n ws = record { number = n; words = ws }
+
+unfoldable pub resetCall : ℕ → List ℕ → Reset
+resetCall pins ws = cond (eqb (length ws) 35 && leb pins 3) (reset 0 (wordsOf (resetChip pins))) (reset 2 ws)
+
+-- ---- pcf8820_step
+
+pub record Stepped : Type 0 where
+  pub number : ℕ
+  pub words : List ℕ
+  pub memory : List ℕ
+  pub writers : List ℕ
+
+abbrev pub stepped : ℕ → List ℕ → List ℕ → List ℕ → Stepped
+stepped n ws m w = record { number = n; words = ws; memory = m; writers = w }
+
+abbrev pub afterStep : After → Stepped
+afterStep a = stepped (numberOf (a .answer)) (wordsOf (a .state .chip)) (a .state .memory) (a .state .writers)
+
+unfoldable pub stepCall : ℕ → List ℕ → List ℕ → List ℕ → Stepped
+stepCall event ws m w = cond (standsFor ws) (afterStep (stepOf event (state (chipOf ws) m w))) (stepped (noRecord m w) ws m w)
+
+-- ---- pcf8820_run
+
+-- besides, how many events were done
+pub record Ran : Type 0 where
+  pub number : ℕ
+  pub done : ℕ
+  pub words : List ℕ
+  pub memory : List ℕ
+  pub writers : List ℕ
+
+abbrev pub ran : ℕ → ℕ → List ℕ → List ℕ → List ℕ → Ran
+ran n d ws m w = record { number = n; done = d; words = ws; memory = m; writers = w }
+
+abbrev pub afterRun : Outcome → Ran
+afterRun o = ran (o .refusal) (o .done) (wordsOf (o .state .chip)) (o .state .memory) (o .state .writers)
+
+unfoldable pub runCall : List ℕ → List ℕ → List ℕ → List ℕ → Ran
+runCall events ws m w = cond (standsFor ws) (afterRun (runOf events (state (chipOf ws) m w))) (ran (noRecord m w) 0 ws m w)
+
+-- ---- exactly when a call is refused: document 01's numbers in their order, read off what the host lends; 0 is none
+
+-- at entry, of a step and of a run
+abbrev pub entryRefusal : List ℕ → List ℕ → List ℕ → ℕ
+entryRefusal ws m w = refuse (not (eqb (length m) places) || not (eqb (length w) places)) 1 then refuse (not (standsFor ws)) 2
+
+abbrev pub stepRefusal : ℕ → List ℕ → List ℕ → List ℕ → ℕ
+stepRefusal event ws m w =
+    entryRefusal ws m w then refuse (not (isListed (eventOf event))) 3 then refuse (eqb (getD ws COUNT 0) (2 ^ 64 - 1)) 4

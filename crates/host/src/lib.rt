@@ -1,0 +1,100 @@
+// The calls of a host in C (include/pcf8820.h). The host holds a chip's record as 35 words; each call answers for every buffer it may be lent.
+ghost use mathlib.Core.Path.{_≡_};
+ghost use Rattle.host.specs.Calls.{noRecordFor, reset, resetCall, stepped, stepCall, ran, runCall};
+ghost use Rattle.host.specs.Views.{glassCall, placeCall};
+use registers::Chip;
+
+mod phase;
+mod words;
+
+// Why words that stand for no record are refused: 1 comes first.
+fn no_record(memory_len: usize, writers_len: usize) -> u64
+    ensures { λ r. ⌜ r ≡ noRecordFor «memory_len» «writers_len» ⌝ }
+{
+    if memory_len != 1717 {
+        return 1;
+    }
+    if writers_len != 1717 {
+        return 1;
+    }
+    2
+}
+
+// The record after power-on reset, for these pins.
+#[no_mangle]
+pub extern "C" fn pcf8820_reset(record: &mut [u64], pins: u64) -> u64
+    ensures { λ r. ⌜ reset r (now («record» .exit)) ≡ resetCall pins (now («record» .entry)) ⌝ }
+{
+    if record.len() != 35 {
+        return 2;
+    }
+    if 3 < pins {
+        return 2;
+    }
+    words::write(Chip::reset(pins as u8), record);
+    0
+}
+
+// One bus event.
+#[no_mangle]
+pub extern "C" fn pcf8820_step(
+    record: &mut [u64],
+    memory: &mut [u8],
+    writers: &mut [u64],
+    event: u16,
+) -> u64
+    ensures { λ r. ⌜ stepped r (now («record» .exit)) (now (memory .exit)) (now (writers .exit)) ≡ stepCall event (now («record» .entry)) (now (memory .entry)) (now (writers .entry)) ⌝ }
+{
+    if !words::stand_for_a_chip(record) {
+        return no_record(memory.len(), writers.len());
+    }
+    let stepped = engine::step::step(event, words::chip(record), memory, writers);
+    let answer = stepped.answer;
+    words::write(stepped.chip, record);
+    answer.number()
+}
+
+// Events in order up to the first refused one; `done` is how many were done.
+#[no_mangle]
+pub extern "C" fn pcf8820_run(
+    record: &mut [u64],
+    memory: &mut [u8],
+    writers: &mut [u64],
+    events: &[u16],
+    done: &mut u64,
+) -> u64
+    ensures { λ r. ⌜ ran r (now (done .exit)) (now («record» .exit)) (now (memory .exit)) (now (writers .exit)) ≡ runCall (now (events .entry)) (now («record» .entry)) (now (memory .entry)) (now (writers .entry)) ⌝ }
+{
+    if !words::stand_for_a_chip(record) {
+        *done = 0;
+        return no_record(memory.len(), writers.len());
+    }
+    let ran = engine::run::run(words::chip(record), memory, writers, events);
+    *done = ran.done as u64;
+    words::write(ran.chip, record);
+    ran.refusal as u64
+}
+
+// What a row and column of the glass show. No writer numbers are lent, so that their length is never wrong.
+#[no_mangle]
+pub extern "C" fn pcf8820_glass(record: &[u64], memory: &[u8], row: u64, column: u64) -> u64
+    ensures { λ r. ⌜ r ≡ glassCall row column (now («record» .entry)) (now (memory .entry)) ⌝ }
+{
+    if !words::stand_for_a_chip(record) {
+        return no_record(memory.len(), 1717);
+    }
+    let shown = glass::glass(words::chip(record), memory, row as usize, column as usize);
+    shown.number()
+}
+
+// Which place of the memories a row and column of the glass show.
+#[no_mangle]
+pub extern "C" fn pcf8820_place(record: &[u64], row: u64, column: u64) -> u64
+    ensures { λ r. ⌜ r ≡ placeCall row column (now («record» .entry)) ⌝ }
+{
+    if !words::stand_for_a_chip(record) {
+        return 2;
+    }
+    let place = glass::place(words::chip(record), row as usize, column as usize);
+    place.number()
+}

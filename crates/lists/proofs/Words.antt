@@ -1,0 +1,80 @@
+-- Ways through the code of a line, over plain variables.
+use mathlib.Core.Path.{_≡_, sym, _∙_}
+use mathlib.Core.Bool.{Bool, true, false}
+use mathlib.Core.List.{List}
+use Prim.Native.Nat.{ℕ, _≤_, _<_}
+use borrow.Author.Tests.{eq-eqb, ne-eqb, lt-ltb, le-ltb}
+use lib.ListN.{length, getD}
+use Rattle.text.specs.declared.Number.{Number}
+use Rattle.text.specs.declared.Number.the-variants.{Value, Malformed}
+use Rattle.text.specs.Text.{bytes, sameBytes, split, indexOf}
+use Rattle.lists.specs.declared.Parsed.{Parsed}
+use Rattle.lists.specs.declared.Parsed.the-variants.{Bad}
+use Rattle.lists.specs.Fields.{fieldNames, fieldPlaces}
+use Rattle.lists.specs.Line.{tab, pieceAt, numberAt, fillWithin, setWithin, fillOf, setOf, putLine, fillLine, setLine, lineOf}
+
+-- ---- numbers, the first malformed one deciding
+
+module _ (n0 n1 n2 n3 n4 : Number) (c0 c1 b0 : ℕ) (e0 : n0 ≡ Value c0) (e1 : n1 ≡ Value c1) (e2 : n2 ≡ Value b0) where
+  pub no-fourth : n3 ≡ Malformed → Bad 6 ≡ fillOf n0 n1 n2 n3 n4
+  no-fourth e3 = rw (e0, e1, e2, e3)
+
+  pub no-fifth : (b1 : ℕ) → n3 ≡ Value b1 → n4 ≡ Malformed → Bad 6 ≡ fillOf n0 n1 n2 n3 n4
+  no-fifth b1 e3 e4 = rw (e0, e1, e2, e3, e4)
+
+  pub five-values : (b1 n : ℕ) (x : Parsed) → n3 ≡ Value b1 → n4 ≡ Value n → x ≡ fillWithin c0 c1 b0 b1 n → x ≡ fillOf n0 n1 n2 n3 n4
+  five-values b1 n x e3 e4 ex = rw (e0, e1, e2, e3, e4) ex
+
+-- a value, and the number of a name
+module _ (k n : ℕ) (v : Number) (e : v ≡ Value n) where
+  pub named : (x : Parsed) → k < 25 → x ≡ setWithin (getD fieldPlaces k 0) n → x ≡ setOf k v
+  named x h ex = rw (e, lt-ltb k 25 h) ex
+
+  pub unnamed : 25 ≤ k → Bad 6 ≡ setOf k v
+  unnamed h = rw (e, le-ltb k 25 h)
+
+-- ---- words, with the number of pieces
+
+module _ (ps : List (List ℕ)) (m : ℕ) (e : m ≡ length ps) where
+  pub put-four :
+      m ≡ 4 → (c b n : Number) (x : Parsed) → c ≡ numberAt ps 1 → b ≡ numberAt ps 2 → n ≡ numberAt ps 3 → x ≡ fillOf c c b b n → x ≡ putLine ps
+  put-four h c b n x ec eb en ex = rw (eq-eqb (length ps) 4 (sym e ∙ h), ← ec, ← eb, ← en) ex
+
+  pub put-other : (m ≡ 4 → ⊥) → Bad 6 ≡ putLine ps
+  put-other h = rw (ne-eqb (length ps) 4 (λ q. h (e ∙ q)))
+
+  pub fill-six :
+      m ≡ 6 → (c0 c1 b0 b1 n : Number) (x : Parsed) → c0 ≡ numberAt ps 1 → c1 ≡ numberAt ps 2 → b0 ≡ numberAt ps 3 → b1 ≡ numberAt ps 4
+      → n ≡ numberAt ps 5 → x ≡ fillOf c0 c1 b0 b1 n → x ≡ fillLine ps
+  fill-six h c0 c1 b0 b1 n x e0 e1 e2 e3 en ex = rw (eq-eqb (length ps) 6 (sym e ∙ h), ← e0, ← e1, ← e2, ← e3, ← en) ex
+
+  pub fill-other : (m ≡ 6 → ⊥) → Bad 6 ≡ fillLine ps
+  fill-other h = rw (ne-eqb (length ps) 6 (λ q. h (e ∙ q)))
+
+  pub set-three :
+      m ≡ 3 → (w : List ℕ) (k : ℕ) (v : Number) (x : Parsed) → w ≡ pieceAt ps 1 → k ≡ indexOf w fieldNames → v ≡ numberAt ps 2 → x ≡ setOf k v → x ≡ setLine ps
+  set-three h w k v x ew ek ev ex = rw (eq-eqb (length ps) 3 (sym e ∙ h), ← ew, ← ek, ← ev) ex
+
+  pub set-other : (m ≡ 3 → ⊥) → Bad 6 ≡ setLine ps
+  set-other h = rw (ne-eqb (length ps) 3 (λ q. h (e ∙ q)))
+
+-- ---- the word itself, w being the first piece and t0, t1, t2 the answers of the three comparisons
+
+module _ (p w : List ℕ) (ew : w ≡ pieceAt (split tab p) 0) (t0 : Bool) (e0 : t0 ≡ sameBytes w (bytes "put")) where
+  pub is-put : t0 ≡ true → (x : Parsed) → x ≡ putLine (split tab p) → x ≡ lineOf p
+  unfolding lineOf
+  is-put h x ex = rw (← ew, sym e0 ∙ h) ex
+
+  module _ (n0 : t0 ≡ false) (t1 : Bool) (e1 : t1 ≡ sameBytes w (bytes "fill")) where
+    pub is-fill : t1 ≡ true → (x : Parsed) → x ≡ fillLine (split tab p) → x ≡ lineOf p
+    unfolding lineOf
+    is-fill h x ex = rw (← ew, sym e0 ∙ n0, sym e1 ∙ h) ex
+
+    module _ (n1 : t1 ≡ false) (t2 : Bool) (e2 : t2 ≡ sameBytes w (bytes "set")) where
+      pub is-set : t2 ≡ true → (x : Parsed) → x ≡ setLine (split tab p) → x ≡ lineOf p
+      unfolding lineOf
+      is-set h x ex = rw (← ew, sym e0 ∙ n0, sym e1 ∙ n1, sym e2 ∙ h) ex
+
+      pub is-none : t2 ≡ false → Bad 6 ≡ lineOf p
+      unfolding lineOf
+      is-none h = rw (← ew, sym e0 ∙ n0, sym e1 ∙ n1, sym e2 ∙ h)

@@ -1,0 +1,34 @@
+use Rattle.lists.proofs.Ranges.{told-cells, filled, not-filled}
+use native.Mathlib.Omega.{arith}
+use borrow.Author.Needs.{needs}
+use Rattle.lists.proofs.grammar.fill_within.Statement.{statement}
+use Rattle.lists.proofs.grammar.fill_within.Tie as tie
+
+fill-fits-requires : tie.Need-fill-fits-requires
+fill-fits-requires c κs = search needs
+
+cast-t7 : tie.Need-cast-t7
+cast-t7 c = omega (arith, told-cells (c .before .before .args .c0) (c .before .before .args .c1) (c .before .before .args .b0) (c .before .before .args .b1) (c .before .before .args .n) _ (c .before .fill-fits .ensures) (c .if1 .taken))
+
+cast-t8 : tie.Need-cast-t8
+cast-t8 c = omega (arith, told-cells (c .before .before .args .c0) (c .before .before .args .c1) (c .before .before .args .b0) (c .before .before .args .b1) (c .before .before .args .n) _ (c .before .fill-fits .ensures) (c .if1 .taken))
+
+cast-t9 : tie.Need-cast-t9
+cast-t9 c = omega (arith, told-cells (c .before .before .args .c0) (c .before .before .args .c1) (c .before .before .args .b0) (c .before .before .args .b1) (c .before .before .args .n) _ (c .before .fill-fits .ensures) (c .if1 .taken))
+
+cast-t10 : tie.Need-cast-t10
+cast-t10 c = omega (arith, told-cells (c .before .before .args .c0) (c .before .before .args .c1) (c .before .before .args .b0) (c .before .before .args .b1) (c .before .before .args .n) _ (c .before .fill-fits .ensures) (c .if1 .taken))
+
+cast-t11 : tie.Need-cast-t11
+cast-t11 c = omega (arith, told-cells (c .before .before .args .c0) (c .before .before .args .c1) (c .before .before .args .b0) (c .before .before .args .b1) (c .before .before .args .n) _ (c .before .fill-fits .ensures) (c .if1 .taken))
+
+returns : tie.Need-returns
+returns c = filled (c .before .before .args .c0) (c .before .before .args .c1) (c .before .before .args .b0) (c .before .before .args .b1) (c .before .before .args .n) _ (c .before .fill-fits .ensures) (c .if1 .taken)
+
+returns-2 : tie.Need-returns-2
+returns-2 c = not-filled (c .before .before .args .c0) (c .before .before .args .c1) (c .before .before .args .b0) (c .before .before .args .b1) (c .before .before .args .n) _ (c .before .fill-fits .ensures) (c .if1 .left)
+
+pub fill-within-spec : {M : Type 1} → statement M
+fill-within-spec =
+    tie.close
+    (tie.spec fill-fits-requires cast-t7 cast-t8 cast-t9 cast-t10 cast-t11 returns returns-2)

@@ -1,0 +1,52 @@
+// Drawing lists: one line as its text says it, and the line at a place of a text.
+ghost use mathlib.Core.Path.{_≡_};
+ghost use Rattle.lists.specs.Lists.{lineAt};
+
+pub mod grammar;
+
+// What a line asks for. `put` is a fill of one cell. A register is given by its place in the record's order.
+pub enum Line {
+    Fill {
+        first_column: u8,
+        last_column: u8,
+        first_bank: u8,
+        last_bank: u8,
+        byte: u8,
+    },
+    Set {
+        field: u8,
+        value: u8,
+    },
+}
+
+// A line, or document 01's number 6, 7 or 8.
+pub enum Parsed {
+    Good(Line),
+    Bad(u8),
+}
+
+// The line at a place of a text, and the place where the next one starts.
+pub struct LineAt {
+    pub parsed: Parsed,
+    pub next: usize,
+}
+
+const NEWLINE: u8 = 10;
+
+// The line that starts at `at`, up to the next newline. Where no newline follows it is 6, and the text is at its end.
+pub fn line_at(text: &[u8], at: usize) -> LineAt
+    ensures { λ r. ⌜ r ≡ lineAt (now (text .entry)) at ⌝ }
+{
+    let end = text::search::find(text, at, NEWLINE);
+    if end < text.len() {
+        let parsed = grammar::line(&text[at..end]);
+        return LineAt {
+            parsed,
+            next: end + 1,
+        };
+    }
+    LineAt {
+        parsed: Parsed::Bad(6),
+        next: text.len(),
+    }
+}

@@ -1,0 +1,103 @@
+-- Searching and comparing, place by place.
+use mathlib.Core.Path.{_≡_, refl, ap, _∙_}
+use mathlib.Core.Bool.{Bool, true, false, cond, _&&_}
+use mathlib.Core.List.{List, [], _∷_}
+use Prim.Native.Nat.{ℕ, suc, _+_, _≤_, _<_}
+use native.Mathlib.Numerals.{add-one}
+use native.Mathlib.Omega.{arith}
+use borrow.Author.Tests.{eq-eqb, ne-eqb, eqb-true, le-leb, leb-true}
+use lib.Dec.{eqb, leb}
+use lib.ListN.{length, getD, drop, drop-of-length-le, length-drop}
+use lib.Seq.{drop-cons}
+use Rattle.text.specs.Text.{before, findOf, countOf, sameBytes}
+
+pub drop-next : (s : List ℕ) (at : ℕ) → at < length s → drop at s ≡ getD s at 0 ∷ drop (at + 1) s
+drop-next s at h = rw (add-one, drop-cons s at 0)
+
+-- ---- find
+
+before-bound : (b : ℕ) (s : List ℕ) → before b s ≤ length s
+before-bound b [] = omega arith
+before-bound b (x ∷ xs) = go (eqb x b) (before-bound b xs)
+  where
+    go : (t : Bool) → before b xs ≤ length xs → cond t 0 (suc (before b xs)) ≤ suc (length xs)
+    go true h = omega arith
+    go false h = omega arith
+
+module _ (s : List ℕ) (at b : ℕ) where
+  pub find-from : at ≤ length s → findOf s at b ≡ at + before b (drop at s)
+  unfolding findOf
+  find-from h = simp (le-leb _ _ h)
+
+  pub find-here : at < length s → getD s at 0 ≡ b → findOf s at b ≡ at
+  find-here h e = find-from (omega arith) ∙ rw (drop-next s at h, eq-eqb _ _ e) (omega arith)
+
+  pub find-on : at < length s → (getD s at 0 ≡ b → ⊥) → findOf s at b ≡ findOf s (at + 1) b
+  unfolding findOf
+  find-on h n =
+      find-from (omega arith)
+      ∙ rw (drop-next s at h, ne-eqb _ _ n, le-leb (at + 1) (length s) (omega arith)) (omega arith)
+
+  pub find-none : length s ≤ at → findOf s at b ≡ length s
+  unfolding findOf
+  find-none h = go (leb at (length s)) refl
+    where
+      go : (t : Bool) → leb at (length s) ≡ t → cond t (at + before b (drop at s)) (length s) ≡ length s
+      go true e = rw (drop-of-length-le s h) (omega (arith, leb-true at (length s) e))
+      go false e = refl
+
+  pub find-bounds : at ≤ length s → (at ≤ findOf s at b) × (findOf s at b ≤ length s)
+  find-bounds h = rw (find-from h) (omega (arith, simp length-drop at (before-bound b (drop at s))))
+
+-- ---- count
+
+-- n bytes counted up to `at`, n′ with the byte there
+module _ (s : List ℕ) (at b n n′ : ℕ) (h : at < length s) where
+  pub count-here : getD s at 0 ≡ b → n′ ≡ n + 1 → n′ + countOf b (drop (at + 1) s) ≡ n + countOf b (drop at s)
+  count-here e en = rw (en, drop-next s at h, eq-eqb _ _ e) (omega arith)
+
+  pub count-on : (getD s at 0 ≡ b → ⊥) → n′ ≡ n → n′ + countOf b (drop (at + 1) s) ≡ n + countOf b (drop at s)
+  count-on e en = rw (en, drop-next s at h, ne-eqb _ _ e)
+
+pub count-end : (s : List ℕ) (at b n : ℕ) → length s ≤ at → n + countOf b (drop at s) ≡ n
+count-end s at b n h = rw (drop-of-length-le s h) (omega arith)
+
+pub count-bound : (b : ℕ) (s : List ℕ) → countOf b s ≤ length s
+count-bound b [] = omega arith
+count-bound b (x ∷ xs) = go (eqb x b) (count-bound b xs)
+  where
+    go : (t : Bool) → countOf b xs ≤ length xs → cond t (suc (countOf b xs)) (countOf b xs) ≤ suc (length xs)
+    go true h = omega arith
+    go false h = omega arith
+
+-- ---- equal
+
+module _ (a b : List ℕ) (at : ℕ) (ha : at < length a) (hb : at < length b) where
+  pub same-on : getD a at 0 ≡ getD b at 0 → sameBytes (drop at a) (drop at b) ≡ sameBytes (drop (at + 1) a) (drop (at + 1) b)
+  same-on e = rw (drop-next a at ha, drop-next b at hb, eq-eqb _ _ e)
+
+  pub same-not : (getD a at 0 ≡ getD b at 0 → ⊥) → sameBytes (drop at a) (drop at b) ≡ false
+  same-not e = rw (drop-next a at ha, drop-next b at hb, ne-eqb _ _ e)
+
+pub same-end : (a b : List ℕ) (at : ℕ) → length a ≤ at → length b ≤ at → sameBytes (drop at a) (drop at b) ≡ true
+same-end a b at ha hb = rw (drop-of-length-le a ha, drop-of-length-le b hb)
+
+pub same-lengths : (a b : List ℕ) → (length a ≡ length b → ⊥) → sameBytes a b ≡ false
+same-lengths [] [] n = absurd (n refl)
+same-lengths [] (y ∷ ys) n = refl
+same-lengths (x ∷ xs) [] n = refl
+same-lengths (x ∷ xs) (y ∷ ys) n = rw (same-lengths xs ys (λ e. n (ap suc e))) (and-false (eqb x y))
+  where
+    and-false : (t : Bool) → t && false ≡ false
+    and-false true = refl
+    and-false false = refl
+
+pub same-equal : (a b : List ℕ) → sameBytes a b ≡ true → a ≡ b
+same-equal [] [] h = refl
+same-equal [] (y ∷ ys) h = cc
+same-equal (x ∷ xs) [] h = cc
+same-equal (x ∷ xs) (y ∷ ys) h = go (eqb x y) refl (same-equal xs ys) h
+  where
+    go : (t : Bool) → eqb x y ≡ t → (sameBytes xs ys ≡ true → xs ≡ ys) → t && sameBytes xs ys ≡ true → x ∷ xs ≡ y ∷ ys
+    go true e rest d = rw (eqb-true x y e, rest d)
+    go false e rest d = cc

@@ -1,0 +1,5 @@
+pub mod Finding
+pub mod Splitting
+pub mod Joining
+pub mod Numbers
+pub mod Printing

@@ -1,0 +1,53 @@
+use Prim.Native.Nat.{_-_}
+use borrow.Author.Needs.{needs}
+use Rattle.worked.proofs.cells.Statement.{statement}
+use Rattle.worked.proofs.cells.Tie as tie
+
+abbrev Inv-loop : tie.InvT-loop
+Inv-loop memory writers place₀ place = Unit {0}
+
+abbrev μ-loop : tie.MeasureT-loop
+μ-loop memory writers place₀ place = 1717 - place
+
+loop-holds : tie.Need-loop-holds Inv-loop μ-loop
+loop-holds c = search needs
+
+element-copy-out-cell : tie.Need-element-copy-out-cell Inv-loop μ-loop
+element-copy-out-cell c = search needs
+
+mul-cell : tie.Need-mul-cell Inv-loop μ-loop
+mul-cell c = search needs
+
+element-copy-out-cell-2 : tie.Need-element-copy-out-cell-2 Inv-loop μ-loop
+element-copy-out-cell-2 c = search needs
+
+cell-requires : tie.Need-cell-requires Inv-loop μ-loop
+cell-requires c κs = search needs
+
+add-place : tie.Need-add-place Inv-loop μ-loop
+add-place c = search needs
+
+loop-less : tie.Need-loop-less Inv-loop μ-loop
+loop-less c = search needs
+
+loop-again : tie.Need-loop-again Inv-loop μ-loop
+loop-again c = search needs
+
+returns : tie.Need-returns Inv-loop μ-loop
+returns c = search needs
+
+pub cells-spec : {M : Type 1} → statement M
+cells-spec =
+    tie.close
+    (tie.spec
+    Inv-loop
+    μ-loop
+    loop-holds
+    element-copy-out-cell
+    mul-cell
+    element-copy-out-cell-2
+    cell-requires
+    add-place
+    loop-less
+    loop-again
+    returns)

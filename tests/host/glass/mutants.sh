@@ -1,0 +1,65 @@
+#!/bin/sh
+# The errors that the tests of the glass must find. Run from the project's root.
+set -eu
+tests=glass
+. tests/host/mutating.sh
+stand_in tests/host/report.c tests/host/buffers.c tests/host/records.c tests/host/glass/*.c
+
+model=glass
+
+# Which cell is shown.
+mutant 'columns from right to left' \
+    's/^    return COLUMNS \* (.*) + column;/    return COLUMNS * (ram_row \/ 4) + 100 - column;/'
+mutant 'mirror X applied when showing' \
+    's/memory\[place_of(shown_row, column)\]/memory[place_of(shown_row, record[MX] ? 100 - column : column)]/'
+mutant 'mirror X applied to the place' \
+    's/place_of(ram_row(record, row), column)/place_of(ram_row(record, row), record[MX] ? 100 - column : column)/'
+mutant 'mirror Y ignored' 's/record\[MY\] ? ROWS - 1 - row : row/row/'
+mutant 'mirror Y about 67' 's/ROWS - 1 - row : row/ROWS - (row ? row : 1) : row/'
+mutant 'mirror Y about 63' 's/ROWS - 1 - row : row/row < 64 ? 63 - row : row : row/'
+mutant 'mirror Y not applied to the place' 's/place_of(ram_row(record, row), column)/place_of(row, column)/'
+mutant 'eight rows in a bank' 's/ROWS_OF_A_BANK = 4/ROWS_OF_A_BANK = 8/'
+mutant 'higher bit worth 1' 's/2 \* high + low/high + 2 * low/'
+mutant 'rows of a bank from the highest bits down' 's/unsigned k = ram_row/unsigned k = 3 - ram_row/'
+
+# What it shows.
+mutant 'modes 10 and 11 exchanged' \
+    's/case 2: return value;/case 2: return 3 - value;/; s/default: return 3 - value;/default: return value;/'
+mutant 'modes 00 and 01 exchanged' 's/case 0: return 0;/case 0: return 3;/; s/case 1: return 3;/case 1: return 0;/'
+mutant 'D and E exchanged' 's/2 \* record\[D\] + record\[E\]/record[D] + 2 * record[E]/'
+mutant 'rows 64 to 66 driven by DP 111' 's/ && ram_row <= 63//'
+mutant 'rows 0 to 8 driven by DP 000' 's/ram_row <= 7/ram_row <= 8/'
+mutant 'other DP drive the first rows' 's/if (part == 0)/if (part < 7)/'
+mutant 'partial screen by glass row' 's/in_part(record\[DP\], shown_row)/in_part(record[DP], row)/'
+mutant 'PS ignored' 's/record\[PS\] && //'
+mutant 'undriven before dark' \
+    's/^    if (record\[PD\] || record\[DOF\])/    if (record[PS] \&\& !in_part(record[DP], shown_row)) return UNDRIVEN; &/'
+mutant 'PD does not darken' 's/record\[PD\] || //'
+mutant 'DOF does not darken' 's/ || record\[DOF\]//'
+mutant 'level 63 given as 64' \
+    's/return LEVEL + \(.*\);/return LEVEL + (\1 == 63 ? 64 : \1);/'
+mutant 'level of the selected register' 's/GS0 + grey_register(record, value)/GS0 + record[GR]/'
+mutant 'number of the register given' \
+    's/LEVEL + record\[GS0 + grey_register(record, value)\]/LEVEL + grey_register(record, value)/'
+
+# Refusals.
+mutant 'row 67 shown' 's/row < ROWS \&\&/row < ROWS + 1 \&\&/'
+mutant 'column 101 shown' 's/column < COLUMNS/column < COLUMNS + 1/'
+mutant 'row cut to 32 bits' 's/return row < ROWS/return (uint32_t)row < ROWS/'
+mutant 'column cut to 32 bits' 's/column < COLUMNS/(uint32_t)column < COLUMNS/'
+mutant 'memory length not looked at' 's/memory_len != PLACES/memory_len < PLACES/'
+mutant 'record looked at before memory' \
+    's/if (memory_len != PLACES)/if (model_allowed(record, record_len) \&\& memory_len != PLACES)/'
+mutant 'row looked at before record' \
+    's/if (!model_allowed(record, record_len))/if (on_the_glass(row, column) \&\& !model_allowed(record, record_len))/'
+mutant 'record not looked at' 's/!model_allowed(record, record_len)/record_len != WORDS/'
+mutant 'no place on a dark glass' \
+    's/^    return PLACE +/    if (record[PD]) return DARK; return PLACE +/'
+
+# Outside the buffers.
+mutant 'memory changed' 's/^    unsigned value = /    ((uint8_t *)memory)[7] ^= 1; &/'
+mutant 'record changed' 's/^    return PLACE +/    ((uint64_t *)record)[X] ^= 1; return PLACE +/'
+mutant 'read past the memory' \
+    's/^    unsigned value = /    (void)*(volatile const uint8_t *)(memory + PLACES); &/'
+
+all_found

@@ -1,0 +1,10 @@
+/* The themes of the tests of the glass, in the order in which they run. */
+#ifndef THEMES_H
+#define THEMES_H
+
+void test_modes(void);
+void test_levels(void);
+void test_whole_glass(void);
+void test_edges(void);
+
+#endif

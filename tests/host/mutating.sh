@@ -1,0 +1,80 @@
+# Can the host tests fail? They are held against the model itself in the place of the library: as it
+# is, when they must pass, and with one error put into a copy of it at a time, when they must not.
+#
+# This is the common part of the lists of errors. They set `tests`, the name of the tests, run from
+# the project's root, and call
+#
+#   stand_in SOURCE...     builds these tests with the unchanged model as the library, and runs them
+#   mutant NAME EDIT       the model changed by this sed script must be found out; `model` names the
+#                          source that is changed
+#   all_found              prints how many there were
+
+cc=${CC:-gcc}
+out=target/tests/mutants/$tests
+flags='-std=c11 -Iinclude -Itests/model -Itests/host'
+parts='model glass list plain compile'
+mutants=0
+
+stop() {
+    echo "mutants: $*" >&2
+    exit 1
+}
+
+compile() {
+    # shellcheck disable=SC2086
+    "$cc" $flags "$@"
+}
+
+# as_library SOURCE OBJECT
+as_library() {
+    compile -O1 -w -include tests/host/stand_in.h -c "$1" -o "$2"
+}
+
+# link_tests CHANGED: that part of the library is the mutant. None, if it is no part.
+link_tests() {
+    changed=$1
+    set --
+    for part in $parts; do
+        if [ "$part" = "$changed" ]; then
+            set -- "$@" "$out/mutant.o"
+        else
+            set -- "$@" "$out/library/$part.o"
+        fi
+    done
+    "$cc" "$out"/tests/*.o "$out"/model/*.o "$@" -o "$out/host"
+}
+
+stand_in() {
+    rm -rf "$out"
+    mkdir -p "$out/tests" "$out/model" "$out/library"
+    for source in "$@"; do
+        compile -O2 -c "$source" -o "$out/tests/$(basename "$source" .c).o"
+    done
+    for part in $parts; do
+        compile -O2 -c "tests/model/$part.c" -o "$out/model/$part.o"
+        as_library "tests/model/$part.c" "$out/library/$part.o"
+    done
+    link_tests none
+    "$out/host" quick || stop "the tests fail on the unchanged model"
+}
+
+mutant() {
+    sed "$2" "tests/model/$model.c" >"$out/mutant.c"
+    if cmp -s "tests/model/$model.c" "$out/mutant.c"; then
+        stop "$1: the edit finds nothing to change in the model"
+    fi
+    as_library "$out/mutant.c" "$out/mutant.o" || stop "$1: the changed model does not compile"
+    link_tests "$model"
+    status=0
+    timeout 120 "$out/host" quick >"$out/log" 2>&1 || status=$?
+    if [ "$status" -ne 1 ]; then
+        cat "$out/log" >&2
+        stop "$1: NOT found by the host tests (exit $status)"
+    fi
+    echo "found: $1 ($(sed -n '1s/^host tests: //p' "$out/log"))"
+    mutants=$((mutants + 1))
+}
+
+all_found() {
+    echo "mutants: $mutants errors put into the model of $tests, all found"
+}
