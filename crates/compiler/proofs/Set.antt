@@ -1,0 +1,317 @@
+-- A whole set: its events leave the registers that the plain reading says.
+use mathlib.Core.Bool.{Bool, true, false, cond}
+use mathlib.Core.List.{List, [], _∷_, _++_}
+use mathlib.Core.Path.{_≡_, refl, sym, ap, _∙_, subst}
+use Prim.Native.Nat.{ℕ, zero, suc, _+_, _-_, _%_, _^_, _≤_, _<_, zero-le}
+use native.Mathlib.Nat.{le-trans}
+use native.Mathlib.Decide.{ℕ-discrete}
+use native.Mathlib.Omega.{arith}
+use borrow.Author.Tests.{eq-eqb, ne-eqb, le-leb, leb-true}
+use lib.Dec.{T, eqb, leb, eqb→eq}
+use lib.ListN.{getD, length}
+use Rattle.registers.specs.declared.Registers.{Registers}
+use Rattle.registers.specs.Encode.{held, rowByte, aimed, isGrey, hasField, rowFor}
+use Rattle.registers.specs.Places.{H, X, Y, GR, GS0, GS3}
+use Rattle.registers.specs.Record.{values, limits, put, blank, allowedRegisters}
+use Rattle.registers.specs.State.{State}
+use Rattle.registers.specs.Table.{Part, rows, noRow}
+use Rattle.registers.proofs.Below.{allBelow, below-at}
+use Rattle.registers.proofs.Encode.{FitParts, row-byte}
+use Rattle.registers.proofs.Put.{put-same, put-other, put-allowed}
+use Rattle.registers.proofs.TableTest.{rowNo}
+use Rattle.registers.proofs.Within.{both-left, both-right}
+use Rattle.chip.specs.Plays
+use Rattle.chip.specs.Plays.{Plays, Sees, Bytes, message, commanded}
+use Rattle.chip.specs.Promised.{commandOf}
+use Rattle.chip.proofs.Plays.{plays-weaken, message-plays}
+use Rattle.chip.proofs.Rows.{row-command, return-command, page-command}
+use Rattle.compiler.specs.Plain.{setTo}
+use Rattle.compiler.specs.Stream.{pageOf, leave, enter, change, rowBytes, rowsFor, setCommands}
+use Rattle.compiler.proofs.Fill.{Shows}
+use Rattle.compiler.proofs.Fills.{seen-allowed, seen-page}
+use Rattle.compiler.proofs.Sets.{at, simple-fits, aimed-at, partsFor, isApart, SimpleRow, simple-row, shows-target, blank-at, blank-self, put-at}
+
+-- ---- one row in its page, from page 0 and back
+
+module _ (f : ℕ) (row : SimpleRow f) (t r : Registers) (zero-page : r .h ≡ 0) (ok : allowedRegisters t ≡ true) where
+  fit : FitParts (rowNo (rowFor f) .parts) t
+  fit = simple-fits (partsFor f) (row .registers-only) t ok
+
+  -- the row's fields as aimed, everything else but H as it was
+  abbrev Aimed : Registers → Type 0
+  Aimed z = (g : ℕ) → (g ≡ H → ⊥) → at z g ≡ cond (hasField g (partsFor f)) (at t g) (at r g)
+
+  in-page-0 : pageOf (rowFor f) ≡ 0 → Aimed (commanded (change 0 (pageOf (rowFor f)) ++ rowByte (rowNo (rowFor f)) t ∷ leave (pageOf (rowFor f))) r)
+  unfolding Plays.commanded
+  in-page-0 e g n =
+      subst (λ (p : ℕ). at (commanded (change 0 p ++ rowByte (rowNo (rowFor f)) t ∷ leave p) r) g ≡ cond (hasField g (partsFor f)) (at t g) (at r g)) (sym e)
+      (ap (λ (z : Registers). at z g) (row-command (rowFor f) (row .listed) t fit r (omega arith) (e ∙ sym zero-page)) ∙ aimed-at (partsFor f) (row .registers-only) t r g)
+
+  there-and-back : (p : ℕ) → p ≤ 4 → pageOf (rowFor f) ≡ p → commanded ((8 + p) ∷ rowByte (rowNo (rowFor f)) t ∷ 1 ∷ []) r ≡ put H 0 (aimed (partsFor f) t (put H p r))
+  unfolding Plays.commanded
+  there-and-back p l e =
+      ap (λ (z : Registers). commandOf 1 (commandOf (rowByte (rowNo (rowFor f)) t) z)) (page-command p r zero-page l)
+      ∙ ap (commandOf 1) (row-command (rowFor f) (row .listed) t fit (put H p r) l e)
+      ∙ return-command (aimed (partsFor f) t (put H p r))
+      (subst (λ (h : ℕ). h ≤ 4) (sym (aimed-at (partsFor f) (row .registers-only) t (put H p r) H ∙ ap (λ (b : Bool). cond b (at t H) p) (row .not-page))) l)
+
+  in-other-page :
+      (pageOf (rowFor f) ≡ 0 → ⊥) → Aimed (commanded (change 0 (pageOf (rowFor f)) ++ rowByte (rowNo (rowFor f)) t ∷ leave (pageOf (rowFor f))) r)
+  in-other-page d g n =
+      let p = pageOf (rowFor f) in
+      ap (λ (l : List ℕ). at (commanded l r) g) shape
+      ∙ ap (λ (z : Registers). at z g) (there-and-back p (row .page) refl)
+      ∙ put-other H 0 (aimed (partsFor f) t (put H p r)) g n
+      ∙ aimed-at (partsFor f) (row .registers-only) t (put H p r) g
+      ∙ ap (λ (x : ℕ). cond (hasField g (partsFor f)) (at t g) x) (put-other H p r g n)
+    where
+      shape : change 0 (pageOf (rowFor f)) ++ rowByte (rowNo (rowFor f)) t ∷ leave (pageOf (rowFor f)) ≡ (8 + pageOf (rowFor f)) ∷ rowByte (rowNo (rowFor f)) t ∷ 1 ∷ []
+      shape = simp (ne-eqb (pageOf (rowFor f)) 0 d, ne-eqb 0 (pageOf (rowFor f)) (λ q. d (sym q)))
+
+  row-aims : Aimed (commanded (change 0 (pageOf (rowFor f)) ++ rowByte (rowNo (rowFor f)) t ∷ leave (pageOf (rowFor f))) r)
+  row-aims = go (ℕ-discrete (pageOf (rowFor f)) 0)
+    where
+      go : Dec (pageOf (rowFor f) ≡ 0) → Aimed (commanded (change 0 (pageOf (rowFor f)) ++ rowByte (rowNo (rowFor f)) t ∷ leave (pageOf (rowFor f))) r)
+      go (yes e) = in-page-0 e
+      go (no d) = in-other-page d
+
+-- ---- any register but the grey ones
+
+put-blank : (f n : ℕ) (r : Registers) → (f ≡ H → ⊥) → (f ≡ X → ⊥) → (f ≡ Y → ⊥) → blank r ≡ r → blank (put f n r) ≡ put f n r
+put-blank f n r h x y b =
+    blank-self (put f n r) (put-other f n r H (λ e. h (sym e)) ∙ sym (ap (λ (z : Registers). at z H) b))
+    (put-other f n r X (λ e. x (sym e)) ∙ sym (ap (λ (z : Registers). at z X) b)) (put-other f n r Y (λ e. y (sym e)) ∙ sym (ap (λ (z : Registers). at z Y) b))
+
+blank-allowed : (r : Registers) → allowedRegisters r ≡ true → allowedRegisters (blank r) ≡ true
+blank-allowed r h = put-allowed H 0 (put X 0 (put Y 0 r)) zero-le (put-allowed X 0 (put Y 0 r) zero-le (put-allowed Y 0 r zero-le h))
+
+-- a value within its limit, for a register that a set can name
+pub record SetFits (f n : ℕ) : Type 0 where
+  pub place : f < 29
+  pub not-page : f ≡ H → ⊥
+  pub not-x : f ≡ X → ⊥
+  pub not-y : f ≡ Y → ⊥
+  pub value : n ≤ getD limits f 0
+
+plain-bytes : (f n : ℕ) → isGrey f ≡ false → (q : Registers) → setCommands f (setTo f n q) ≡ 1 ∷ rowBytes 0 (rowFor f ∷ []) (put f n q)
+unfolding setTo
+plain-bytes f n e q =
+    ap (λ (b : Bool). 1 ∷ rowBytes 0 (cond b (rowFor GR ∷ rowFor f ∷ []) (rowFor f ∷ [])) (cond b (put f n (put GR (f - GS0) q)) (put f n q))) e
+
+set-simple :
+    (f n : ℕ) → SetFits f n → isGrey f ≡ false → isApart f ≡ false → (r : Registers) → r .h ≤ 4 → allowedRegisters r ≡ true
+    → blank (commanded (setCommands f (setTo f n (blank r))) r) ≡ setTo f n (blank r)
+unfolding Plays.commanded setTo
+set-simple f n fits plain apart r page ok =
+    subst
+    (λ (b : Bool).
+    blank (commanded (1 ∷ rowBytes 0 (cond b (rowFor GR ∷ rowFor f ∷ []) (rowFor f ∷ [])) (cond b (put f n (put GR (f - GS0) (blank r))) (put f n (blank r)))) r)
+    ≡ cond b (put f n (put GR (f - GS0) (blank r))) (put f n (blank r)))
+    (sym plain)
+    (ap (λ (z : Registers). blank (commanded (rowBytes 0 (rowFor f ∷ []) (put f n (blank r))) z)) (return-command r page)
+    ∙ shows-target (commanded (rowBytes 0 (rowFor f ∷ []) (put f n (blank r))) (put H 0 r)) (put f n (blank r)) (put-blank f n (blank r) (fits .not-page) (fits .not-x) (fits .not-y) refl) each)
+  where
+    row : SimpleRow f
+    row = simple-row f (fits .place) apart
+
+    t-ok : allowedRegisters (put f n (blank r)) ≡ true
+    t-ok = put-allowed f n (blank r) (fits .value) (blank-allowed r ok)
+
+    other : (b : Bool) (g : ℕ) → hasField g (partsFor f) ≡ b → (g ≡ H → ⊥) → (g ≡ X → ⊥) → (g ≡ Y → ⊥) → cond b (at (put f n (blank r)) g) (at (put H 0 r) g) ≡ at (put f n (blank r)) g
+    other true g e h x y = refl
+    other false g e h x y =
+        put-other H 0 r g h ∙ sym (blank-at r g h x y)
+        ∙ sym (put-other f n (blank r) g (λ q. clash (sym (row .own) ∙ ap (λ (k : ℕ). hasField k (partsFor f)) (sym q) ∙ e)))
+      where
+        clash : true ≡ false → ⊥
+        clash w = subst (λ (b : Bool). T b) w tt
+
+    each : (g : ℕ) → g < 29 → (g ≡ H → ⊥) → (g ≡ X → ⊥) → (g ≡ Y → ⊥) → at (commanded (rowBytes 0 (rowFor f ∷ []) (put f n (blank r))) (put H 0 r)) g ≡ at (put f n (blank r)) g
+    each g l h x y = row-aims f row (put f n (blank r)) (put H 0 r) refl t-ok g h ∙ other (hasField g (partsFor f)) g refl h x y
+
+-- ---- the grey registers
+
+grey-row : (k : ℕ) → k < 4 → rowFor (GS0 + k) ≡ 17
+grey-row k h = eqb→eq (rowFor (GS0 + k)) 17 (below-at 4 (λ (k : ℕ). eqb (rowFor (GS0 + k)) 17) tt k h)
+
+grey-limit : (k : ℕ) → k < 4 → getD limits (GS0 + k) 0 ≡ 63
+grey-limit k h = eqb→eq (getD limits (GS0 + k) 0) 63 (below-at 4 (λ (k : ℕ). eqb (getD limits (GS0 + k) 0) 63) tt k h)
+
+module _ (k n : ℕ) (lk : k < 4) (ln : n ≤ 63) (r : Registers) (page : r .h ≤ 4) where
+  -- what the registers are to be
+  abbrev goal : Registers
+  goal = put (GS0 + k) n (put GR k (blank r))
+
+  goal-selects : at goal GR ≡ k
+  goal-selects = put-other (GS0 + k) n (put GR k (blank r)) GR (λ e. omega arith)
+
+  goal-level : at goal (GS0 + k) ≡ n
+  goal-level = put-same (GS0 + k) n (put GR k (blank r)) (omega arith)
+
+  chosen : GS0 + goal .gr % 4 ≡ GS0 + k
+  chosen = omega (arith, goal-selects)
+
+  fit-select : FitParts (rowNo 16 .parts) goal
+  fit-select = (omega (arith, goal-selects), tt)
+
+  fit-level : FitParts (rowNo 17 .parts) goal
+  fit-level = (omega (arith, ap (at goal) chosen, goal-level), tt)
+
+  grey-all-bytes : Bytes (1 ∷ 11 ∷ rowByte (rowNo 16) goal ∷ rowByte (rowNo 17) goal ∷ 1 ∷ [])
+  grey-all-bytes = (omega arith, (omega arith, (row-byte 16 (omega arith) goal fit-select, (row-byte 17 (omega arith) goal fit-level, (omega arith, tt)))))
+
+  after-select : Registers
+  after-select = put GR (at goal GR) (put H 3 (put H 0 r))
+
+  -- page return, page 3, select, level, page return
+  grey-commands :
+      commanded (1 ∷ 11 ∷ rowByte (rowNo 16) goal ∷ rowByte (rowNo 17) goal ∷ 1 ∷ []) r ≡ put H 0 (put (GS0 + k) (at goal (GS0 + k)) after-select)
+  unfolding Plays.commanded after-select
+  grey-commands =
+      ap (λ (z : Registers). commandOf 1 (commandOf (rowByte (rowNo 17) goal) (commandOf (rowByte (rowNo 16) goal) (commandOf 11 z)))) (return-command r page)
+      ∙ ap (λ (z : Registers). commandOf 1 (commandOf (rowByte (rowNo 17) goal) (commandOf (rowByte (rowNo 16) goal) z))) (page-command 3 (put H 0 r) refl (omega arith))
+      ∙ ap (λ (z : Registers). commandOf 1 (commandOf (rowByte (rowNo 17) goal) z))
+      (row-command 16 (omega arith) goal fit-select (put H 3 (put H 0 r)) (omega arith) refl)
+      ∙ ap (commandOf 1) (row-command 17 (omega arith) goal fit-level (put GR (at goal GR) (put H 3 (put H 0 r))) (omega arith) refl)
+      ∙ ap (λ (f : ℕ). commandOf 1 (put f (at goal f) (put GR (at goal GR) (put H 3 (put H 0 r))))) chosen
+      ∙ return-command (put (GS0 + k) (at goal (GS0 + k)) (put GR (at goal GR) (put H 3 (put H 0 r))))
+      (omega (arith, put-other (GS0 + k) (at goal (GS0 + k)) (put GR (at goal GR) (put H 3 (put H 0 r))) H (λ e. omega arith)))
+
+  grey-each :
+      (g : ℕ) → g < 29 → (g ≡ H → ⊥) → (g ≡ X → ⊥) → (g ≡ Y → ⊥) → at (put H 0 (put (GS0 + k) (at goal (GS0 + k)) after-select)) g ≡ at goal g
+  unfolding after-select
+  grey-each g l h x y =
+      put-other H 0 (put (GS0 + k) (at goal (GS0 + k)) after-select) g h
+      ∙ put-at (GS0 + k) g goal after-select (omega arith)
+      ∙ ap (λ (v : ℕ). cond (eqb g (GS0 + k)) (at goal g) v) (put-at GR g goal (put H 3 (put H 0 r)) (omega arith))
+      ∙ go (ℕ-discrete g (GS0 + k)) (ℕ-discrete g GR)
+    where
+      go :
+          Dec (g ≡ GS0 + k) → Dec (g ≡ GR)
+          → cond (eqb g (GS0 + k)) (at goal g) (cond (eqb g GR) (at goal g) (at (put H 3 (put H 0 r)) g)) ≡ at goal g
+      go (yes e) _ = simp (eq-eqb g (GS0 + k) e)
+      go (no d) (yes e) = simp (ne-eqb g (GS0 + k) d, eq-eqb g GR e)
+      go (no d) (no c) =
+          simp (ne-eqb g (GS0 + k) d, ne-eqb g GR c)
+          (put-other H 3 (put H 0 r) g h ∙ put-other H 0 r g h ∙ sym (blank-at r g h x y) ∙ sym (put-other GR k (blank r) g c)
+          ∙ sym (put-other (GS0 + k) n (put GR k (blank r)) g d))
+
+  grey-blank : blank goal ≡ goal
+  grey-blank = put-blank (GS0 + k) n (put GR k (blank r)) (λ e. omega arith) (λ e. omega arith) (λ e. omega arith) refl
+
+  grey-shows : blank (commanded (1 ∷ 11 ∷ rowByte (rowNo 16) goal ∷ rowByte (rowNo 17) goal ∷ 1 ∷ []) r) ≡ goal
+  grey-shows = ap blank grey-commands ∙ shows-target (put H 0 (put (GS0 + k) (at goal (GS0 + k)) after-select)) goal grey-blank grey-each
+
+-- ---- any set
+
+module _ (k n : ℕ) (lk : k < 4) (ln : n ≤ 63) (r : Registers) (page : r .h ≤ 4) where
+  is-grey : isGrey (GS0 + k) ≡ true
+  is-grey = simp (le-leb GS0 (GS0 + k) (omega arith), le-leb (GS0 + k) GS3 (omega arith))
+
+  grey-target : setTo (GS0 + k) n (blank r) ≡ put (GS0 + k) n (put GR k (blank r))
+  unfolding setTo
+  grey-target =
+      ap (λ (b : Bool). cond b (put (GS0 + k) n (put GR (GS0 + k - GS0) (blank r))) (put (GS0 + k) n (blank r))) is-grey
+      ∙ ap (λ (x : ℕ). put (GS0 + k) n (put GR x (blank r))) (omega arith)
+
+  grey-bytes : (t : Registers) → setCommands (GS0 + k) t ≡ 1 ∷ 11 ∷ rowByte (rowNo 16) t ∷ rowByte (rowNo 17) t ∷ 1 ∷ []
+  grey-bytes t =
+      ap (λ (b : Bool). 1 ∷ rowBytes 0 (cond b (rowFor GR ∷ rowFor (GS0 + k) ∷ []) (rowFor (GS0 + k) ∷ [])) t) is-grey
+      ∙ ap (λ (i : ℕ). 1 ∷ rowBytes 0 (16 ∷ i ∷ []) t) (grey-row k lk)
+
+  set-grey : blank (commanded (setCommands (GS0 + k) (setTo (GS0 + k) n (blank r))) r) ≡ setTo (GS0 + k) n (blank r)
+  set-grey =
+      ap (λ (t : Registers). blank (commanded (setCommands (GS0 + k) t) r)) grey-target
+      ∙ ap (λ (bs : List ℕ). blank (commanded bs r)) (grey-bytes (put (GS0 + k) n (put GR k (blank r))))
+      ∙ grey-shows k n lk ln r page
+      ∙ sym grey-target
+
+not-apart : (f : ℕ) → (f ≡ H → ⊥) → (f ≡ X → ⊥) → (f ≡ Y → ⊥) → isGrey f ≡ false → isApart f ≡ false
+not-apart f h x y g = simp (ne-eqb f H h, ne-eqb f X x, ne-eqb f Y y, g)
+
+grey-bounds : (f : ℕ) → isGrey f ≡ true → (GS0 ≤ f) × (f ≤ GS3)
+grey-bounds f e = (leb-true GS0 f (both-left (leb GS0 f) (leb f GS3) e), leb-true f GS3 (both-right (leb GS0 f) (leb f GS3) e))
+
+set-registers :
+    (f n : ℕ) → SetFits f n → (r : Registers) → r .h ≤ 4 → allowedRegisters r ≡ true
+    → blank (commanded (setCommands f (setTo f n (blank r))) r) ≡ setTo f n (blank r)
+set-registers f n fits r page ok = go (isGrey f) refl
+  where
+    go : (b : Bool) → isGrey f ≡ b → blank (commanded (setCommands f (setTo f n (blank r))) r) ≡ setTo f n (blank r)
+    go false e = set-simple f n fits e (not-apart f (fits .not-page) (fits .not-x) (fits .not-y) e) r page ok
+    go true e =
+        let b = grey-bounds f e in
+        let up : GS0 + (f - GS0) ≡ f = omega (arith, b .0) in
+        let lk : f - GS0 < 4 = omega (arith, b .0, b .1) in
+        let ln : n ≤ 63 = subst (λ (x : ℕ). n ≤ x) (ap (λ (g : ℕ). getD limits g 0) (sym up) ∙ grey-limit (f - GS0) lk) (fits .value) in
+        subst (λ (g : ℕ). blank (commanded (setCommands g (setTo g n (blank r))) r) ≡ setTo g n (blank r)) up (set-grey (f - GS0) n lk ln r page)
+
+bytes-append : (xs ys : List ℕ) → Bytes xs → Bytes ys → Bytes (xs ++ ys)
+bytes-append [] ys a b = b
+bytes-append (x ∷ xs) ys a b = (a .0, bytes-append xs ys (a .1) b)
+
+-- the page of a row that there is
+change-bytes : (p q : ℕ) → q ≤ 4 → Bytes (change p q)
+change-bytes p q h = go (eqb p q) (eqb p 0) (eqb q 0)
+  where
+    go : (a b c : Bool) → Bytes (cond a [] (cond b [] (1 ∷ []) ++ cond c [] ((8 + q) ∷ [])))
+    go true b c = tt
+    go false true true = tt
+    go false true false = (omega arith, tt)
+    go false false true = (omega arith, tt)
+    go false false false = (omega arith, (omega arith, tt))
+
+leave-bytes : (p : ℕ) → Bytes (leave p)
+leave-bytes p = go (eqb p 0)
+  where
+    go : (b : Bool) → Bytes (cond b [] (1 ∷ []))
+    go true = tt
+    go false = (omega arith, tt)
+
+simple-bytes : (f : ℕ) → SimpleRow f → (t : Registers) → allowedRegisters t ≡ true → Bytes (1 ∷ rowBytes 0 (rowFor f ∷ []) t)
+simple-bytes f row t ok = (
+  omega arith,
+  bytes-append (change 0 (pageOf (rowFor f))) (rowByte (rowNo (rowFor f)) t ∷ leave (pageOf (rowFor f))) (change-bytes 0 (pageOf (rowFor f)) (row .page))
+      (row-byte (rowFor f) (row .listed) t (simple-fits (partsFor f) (row .registers-only) t ok), leave-bytes (pageOf (rowFor f))),
+)
+
+set-bytes : (f n : ℕ) → SetFits f n → (r : Registers) → r .h ≤ 4 → allowedRegisters r ≡ true → Bytes (setCommands f (setTo f n (blank r)))
+set-bytes f n fits r page ok = go (isGrey f) refl
+  where
+    go : (b : Bool) → isGrey f ≡ b → Bytes (setCommands f (setTo f n (blank r)))
+    go false e =
+        subst Bytes (sym (plain-bytes f n e (blank r)))
+        (simple-bytes f (simple-row f (fits .place) (not-apart f (fits .not-page) (fits .not-x) (fits .not-y) e)) (put f n (blank r))
+        (put-allowed f n (blank r) (fits .value) (blank-allowed r ok)))
+    go true e =
+        let b = grey-bounds f e in
+        let up : GS0 + (f - GS0) ≡ f = omega (arith, b .0) in
+        let lk : f - GS0 < 4 = omega (arith, b .0, b .1) in
+        let ln : n ≤ 63 = subst (λ (x : ℕ). n ≤ x) (ap (λ (g : ℕ). getD limits g 0) (sym up) ∙ grey-limit (f - GS0) lk) (fits .value) in
+        subst (λ (g : ℕ). Bytes (setCommands g (setTo g n (blank r)))) up
+        (subst Bytes
+        (sym (ap (setCommands (GS0 + (f - GS0))) (grey-target (f - GS0) n lk ln r page) ∙ grey-bytes (f - GS0) n lk ln r page (put (GS0 + (f - GS0)) n (put GR (f - GS0) (blank r)))))
+        (grey-all-bytes (f - GS0) n lk ln r page))
+
+-- the events of a set, from any state that shows q
+pub set-plays :
+    (f n : ℕ) → SetFits f n → (q : Registers) (m : List ℕ) (pins k : ℕ) (s : State) → Shows q m pins (length (message pins (setCommands f (setTo f n q))) + k) s
+    → Plays (message pins (setCommands f (setTo f n q))) (Shows (setTo f n q) m pins k) s
+set-plays f n fits q m pins k s shows =
+    subst
+    (λ (q : Registers).
+    Sees (shows .full) m pins (length (message pins (setCommands f (setTo f n q))) + k) s
+    → Plays (message pins (setCommands f (setTo f n q))) (Shows (setTo f n q) m pins k) s)
+    (shows .same) from-full (shows .sees)
+  where
+    from-full :
+        Sees (shows .full) m pins (length (message pins (setCommands f (setTo f n (blank (shows .full))))) + k) s
+        → Plays (message pins (setCommands f (setTo f n (blank (shows .full))))) (Shows (setTo f n (blank (shows .full))) m pins k) s
+    from-full see =
+        let r = shows .full in
+        let bs = setCommands f (setTo f n (blank r)) in
+        let page = seen-page r m pins (length (message pins bs) + k) s see in
+        let ok = seen-allowed r m pins (length (message pins bs) + k) s see in
+        plays-weaken (message pins bs) (Sees (commanded bs r) m pins k) (Shows (setTo f n (blank r)) m pins k) s
+        (λ t after. record { full = commanded bs r; sees = after; same = set-registers f n fits r page ok })
+        (message-plays bs r m pins k (set-bytes f n fits r page ok) s see)

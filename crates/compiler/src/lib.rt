@@ -1,0 +1,1 @@
+// Drawing lists to bus events.
