@@ -11,6 +11,7 @@ use Rattle.registers.specs.declared.Phase.{Phase}
 use Rattle.registers.specs.declared.Phase.the-variants.{Idle, AddressAwaited, Ignoring, ControlAwaited, OneByte, EndlessBytes, Reading, ReadEnded}
 use Rattle.registers.specs.Record.{inPhase, withRegisters}
 use Rattle.registers.specs.State.{State, state}
+use Rattle.registers.proofs.Below.{false-true}
 use Rattle.engine.specs.declared.event.Event.{Event}
 use Rattle.engine.specs.declared.event.Event.the-variants.{Byte, Start, Stop, ReadAcknowledged, ReadNotAcknowledged, Reset, Sensor, Unlisted}
 use Rattle.engine.specs.Event.{eventOf}
@@ -18,7 +19,7 @@ use Rattle.engine.specs.Step.{onByte, applied, accepted}
 use Rattle.chip.specs.Phases.{awaitsData, awaitsCommand, isDeaf, afterContent, afterUnheard}
 use Rattle.chip.specs.Promised.{Answer, Refused, Nothing, Acknowledged, NotAcknowledged, Read, After, after, refusalOf, stepOf, counted, isAddressed, acknowledge, phaseAfterAddress, controlled, readByte, phaseAfterLastRead, pulsed, sensed, commandOf, storedOf, placeOf, nextAddress}
 use Rattle.chip.specs.Effects.{plain, displayed}
-use Rattle.chip.proofs.Refusals.{accepted-step, past-low, false-true}
+use Rattle.chip.proofs.Refusals.{accepted-step, past-low}
 
 pub byte-event : (b : ℕ) → b < 256 → eventOf b ≡ Byte b
 byte-event b h = simp (lt-ltb b 256 h)

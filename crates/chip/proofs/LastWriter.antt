@@ -15,6 +15,7 @@ use lib.Seq.{getD-set-same, getD-set-other}
 use Rattle.registers.specs.declared.Phase.{Phase}
 use Rattle.registers.specs.declared.Phase.the-variants.{Idle, AddressAwaited, Ignoring, ControlAwaited, OneByte, EndlessBytes, Reading, ReadEnded}
 use Rattle.registers.specs.State.{State, state}
+use Rattle.registers.proofs.Below.{true-false}
 use Rattle.engine.specs.declared.event.Event.{Event}
 use Rattle.engine.specs.declared.event.Event.the-variants.{Byte, Start, Stop, ReadAcknowledged, ReadNotAcknowledged, Reset, Sensor, Unlisted}
 use Rattle.engine.specs.Event.{eventOf}
@@ -29,7 +30,7 @@ use Rattle.chip.specs.Phases.{awaitsData}
 use Rattle.chip.specs.Promised.{After, Fit, Outcome, outcome, Acknowledged, entryRefusal, refusalOf, stepOf, runFrom, placeOf, storedOf}
 use Rattle.chip.proofs.Allowed.{accepted-fit}
 use Rattle.chip.proofs.Events.{display-step, byte-event}
-use Rattle.chip.proofs.Refusals.{accepted-step, true-false}
+use Rattle.chip.proofs.Refusals.{accepted-step}
 use Rattle.chip.proofs.Runs.{run-shift}
 
 -- ---- one event

@@ -42,10 +42,11 @@ pub paints-both :
     (A B C : ℕ → Type 0) (b : ℕ) (m m₁ m₂ : List ℕ) → ((k : ℕ) → Dec (B k)) → ((k : ℕ) → A k → C k) → ((k : ℕ) → B k → C k)
     → ((k : ℕ) → C k → (B k → ⊥) → A k) → Paints A b m m₁ → Paints B b m₁ m₂ → Paints C b m m₂
 paints-both A B C b m m₁ m₂ dec ac bc rest p q =
-    record
-    { same-length = q .same-length ∙ p .same-length
-    ; inside = λ k l c. here k l c (dec k)
-    ; outside = λ k o. q .outside k (λ x. o (bc k x)) ∙ p .outside k (λ x. o (ac k x)) }
+    record {
+      same-length = q .same-length ∙ p .same-length;
+      inside = λ k l c. here k l c (dec k);
+      outside = λ k o. q .outside k (λ x. o (bc k x)) ∙ p .outside k (λ x. o (ac k x));
+    }
   where
     here : (k : ℕ) → k < length m → C k → Dec (B k) → getD m₂ k 0 ≡ b
     here k l c (yes x) = q .inside k (subst (λ (n : ℕ). k < n) (sym (p .same-length)) l) x
@@ -77,12 +78,13 @@ at-place mx x y h =
 paints-cell :
     (mx x y b : ℕ) (m : List ℕ) → x ≤ 100 → y ≤ 16 → length m ≡ 1717 → Paints (In mx x 1 y 1) b m (set m (101 * y + mirrored mx x) b)
 paints-cell mx x y b m hx hy len =
-    record
-    { same-length = length-set m (101 * y + mirrored mx x) b
-    ; inside = λ k l i.
-        ap (λ (n : ℕ). getD (set m (101 * y + mirrored mx x) b) n 0) (one-place mx x y k hx i)
-        ∙ getD-set-same m (101 * y + mirrored mx x) b 0 (omega (arith, mirror-low (eqb mx 1) x hx))
-    ; outside = λ k o. getD-set-other m (101 * y + mirrored mx x) k b 0 (λ e. o (subst (In mx x 1 y 1) (sym e) (at-place mx x y hx))) }
+    record {
+      same-length = length-set m (101 * y + mirrored mx x) b;
+      inside = λ k l i.
+          ap (λ (n : ℕ). getD (set m (101 * y + mirrored mx x) b) n 0) (one-place mx x y k hx i)
+          ∙ getD-set-same m (101 * y + mirrored mx x) b 0 (omega (arith, mirror-low (eqb mx 1) x hx));
+      outside = λ k o. getD-set-other m (101 * y + mirrored mx x) k b 0 (λ e. o (subst (In mx x 1 y 1) (sym e) (at-place mx x y hx)));
+    }
 
 -- a byte that was sent as DO says is stored as it was meant
 reversed-twice : (b : ℕ) → b < 256 → reversedOf (reversedOf b) ≡ b

@@ -10,18 +10,13 @@ use lib.Dec.{eqb, ltb}
 use lib.ListN.{length}
 use Rattle.registers.specs.Record.{allowed}
 use Rattle.registers.specs.State.{State, places}
+use Rattle.registers.proofs.Below.{true-false}
 use Rattle.engine.specs.declared.answer.Answer.the-variants.{Refused}
 use Rattle.engine.specs.declared.event.Event.{Event}
 use Rattle.engine.specs.declared.event.Event.the-variants.{Sensor, Unlisted}
 use Rattle.engine.specs.Event.{eventOf, isListed}
 use Rattle.engine.specs.Step.{After, Fit, refuse, _then_, refusalOf, accepted, stepOf, unlessRefused}
 use Rattle.chip.specs.When.{Listed, Lengths, When}
-
-pub true-false : true ≡ false → ⊥
-true-false e = let z : _≡_ {A = ℕ} 0 1 = ap (λ (b : Bool). cond b 0 1) e in omega arith
-
-pub false-true : false ≡ true → ⊥
-false-true e = true-false (sym e)
 
 -- ---- listed events
 

@@ -14,6 +14,7 @@ use Rattle.registers.specs.declared.Registers.{Registers}
 use Rattle.registers.specs.Places.{«V»}
 use Rattle.registers.specs.Record.{blank}
 use Rattle.registers.specs.State.{State}
+use Rattle.registers.proofs.Below.{true-false}
 use Rattle.registers.proofs.Within.{register-bound, both-left, both-right}
 use Rattle.chip.specs.Paint.{In, Paints, mirrored}
 use Rattle.chip.specs.Plays.{Plays, Sees}
@@ -114,12 +115,9 @@ module _ (mx c0 c1 b0 b1 n : ℕ) (fits : FillFits c0 c1 b0 b1 n) (m m′ : List
       at i l false e =
           paints .outside i
           (λ w. let x = left-in (eqb mx 1) c0 c1 (i % 101) (fits .columns) (fits .last-column) (omega arith) (w .left) (w .right) in
-          clash (bounds-inside c0 c1 b0 b1 i
-          (record { first-column = x .0; last-column = x .1; first-bank = w .top; last-bank = omega (arith, w .bottom, fits .banks) })) e)
+          true-false (sym (bounds-inside c0 c1 b0 b1 i
+          (record { first-column = x .0; last-column = x .1; first-bank = w .top; last-bank = omega (arith, w .bottom, fits .banks) })) ∙ e))
           ∙ sym (ap (λ (t : Bool). cond t n (getD m i 0)) e)
-        where
-          clash : {t : Bool} → t ≡ true → t ≡ false → ⊥
-          clash p q = let z : _≡_ {A = ℕ} 0 1 = ap (λ (b : Bool). cond b 0 1) (sym p ∙ q) in omega arith
 
 -- a state that shows registers q, but H, X and Y, and the cells m
 pub record Shows (q : Registers) (m : List ℕ) (pins n : ℕ) (s : State) : Type 0 where

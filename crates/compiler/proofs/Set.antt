@@ -15,7 +15,8 @@ use Rattle.registers.specs.Places.{H, X, Y, GR, GS0, GS3}
 use Rattle.registers.specs.Record.{values, limits, put, blank, allowedRegisters}
 use Rattle.registers.specs.State.{State}
 use Rattle.registers.specs.Table.{Part, rows, noRow}
-use Rattle.registers.proofs.Below.{allBelow, below-at}
+use Rattle.registers.proofs.Below.{allBelow, below-at, true-false}
+use Rattle.registers.proofs.Parts.{grey-limit}
 use Rattle.registers.proofs.Encode.{FitParts, row-byte}
 use Rattle.registers.proofs.Put.{put-same, put-other, put-allowed}
 use Rattle.registers.proofs.TableTest.{rowNo}
@@ -121,10 +122,7 @@ set-simple f n fits plain apart r page ok =
     other true g e h x y = refl
     other false g e h x y =
         put-other H 0 r g h ∙ sym (blank-at r g h x y)
-        ∙ sym (put-other f n (blank r) g (λ q. clash (sym (row .own) ∙ ap (λ (k : ℕ). hasField k (partsFor f)) (sym q) ∙ e)))
-      where
-        clash : true ≡ false → ⊥
-        clash w = subst (λ (b : Bool). T b) w tt
+        ∙ sym (put-other f n (blank r) g (λ q. true-false (sym (row .own) ∙ ap (λ (k : ℕ). hasField k (partsFor f)) (sym q) ∙ e)))
 
     each : (g : ℕ) → g < 29 → (g ≡ H → ⊥) → (g ≡ X → ⊥) → (g ≡ Y → ⊥) → at (commanded (rowBytes 0 (rowFor f ∷ []) (put f n (blank r))) (put H 0 r)) g ≡ at (put f n (blank r)) g
     each g l h x y = row-aims f row (put f n (blank r)) (put H 0 r) refl t-ok g h ∙ other (hasField g (partsFor f)) g refl h x y
@@ -133,9 +131,6 @@ set-simple f n fits plain apart r page ok =
 
 grey-row : (k : ℕ) → k < 4 → rowFor (GS0 + k) ≡ 17
 grey-row k h = eqb→eq (rowFor (GS0 + k)) 17 (below-at 4 (λ (k : ℕ). eqb (rowFor (GS0 + k)) 17) tt k h)
-
-grey-limit : (k : ℕ) → k < 4 → getD limits (GS0 + k) 0 ≡ 63
-grey-limit k h = eqb→eq (getD limits (GS0 + k) 0) 63 (below-at 4 (λ (k : ℕ). eqb (getD limits (GS0 + k) 0) 63) tt k h)
 
 module _ (k n : ℕ) (lk : k < 4) (ln : n ≤ 63) (r : Registers) (page : r .h ≤ 4) where
   -- what the registers are to be

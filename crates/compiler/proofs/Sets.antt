@@ -16,7 +16,7 @@ use Rattle.registers.specs.Places.{H, X, Y, GR, GS0}
 use Rattle.registers.specs.Record.{values, ofValues, limits, put, blank, allowedRegisters}
 use Rattle.registers.specs.Table.{Target, Part, Row, rows, noRow, putTo}
 use Rattle.registers.specs.Table.Target.{register, bounded, selected, unheld}
-use Rattle.registers.proofs.Below.{allBelow, below-at, and-left, and-right}
+use Rattle.registers.proofs.Below.{allBelow, below-at, and-left, and-right, true-false}
 use Rattle.registers.proofs.Encode.{FitParts}
 use Rattle.registers.proofs.Put.{put-same, put-other, put-allowed}
 use Rattle.registers.proofs.Within.{register-bound}
@@ -110,11 +110,8 @@ pub record SimpleRow (f : ℕ) : Type 0 where
   pub listed : rowFor f < 21
   pub page : getD rows (rowFor f) noRow .page ≤ 4
 
-true-false : true ≡ false → ⊥
-true-false e = subst (λ (x : Bool). T x) e tt
-
 or-right : (a b : Bool) → a ≡ false → T (a || b) → T b
-or-right true b e t = absurd (subst (λ (x : Bool). T x) e tt)
+or-right true b e t = absurd (true-false e)
 or-right false b e t = t
 
 true-of : (a : Bool) → T a → a ≡ true

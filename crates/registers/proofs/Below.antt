@@ -1,5 +1,5 @@
 -- A test that antt computes at every number below a bound, and the law that gives it at each.
-use mathlib.Core.Path.{_≡_, refl}
+use mathlib.Core.Path.{_≡_, refl, sym, subst}
 use mathlib.Core.Bool.{Bool, true, false, _&&_}
 use Prim.Native.Nat.{ℕ, zero, suc, _<_}
 use native.Mathlib.Decide.{ℕ-discrete}
@@ -25,6 +25,12 @@ below-at (suc n) f t k h = go (ℕ-discrete k n) (below-at n f (and-right (f n) 
     go : Dec (k ≡ n) → (k < n → T (f k)) → T (f k)
     go (yes e) lower = rw e (and-left (f n) (allBelow n f) t)
     go (no d) lower = lower (omega arith)
+
+pub true-false : true ≡ false → ⊥
+true-false e = subst (λ (b : Bool). T b) e tt
+
+pub false-true : false ≡ true → ⊥
+false-true e = true-false (sym e)
 
 abbrev pub same : Bool → Bool → Bool
 same true b = b

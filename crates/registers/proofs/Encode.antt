@@ -66,11 +66,12 @@ says-from (p ∷ ps) q t top st fit =
     let el : e < 2 ^ l = encoded-lt ps t l rest (fit .1) in
     let up : top ≡ g + (w + l) = omega arith in
     let eq : q * 2 ^ top + (v * 2 ^ l + e) ≡ (q * 2 ^ g * 2 ^ w + v) * 2 ^ l + e =
-        ap (λ (x : ℕ). q * 2 ^ x + (v * 2 ^ l + e)) up ∙ regroup q g w l v e
-    in
-    ( ap (λ (x : ℕ). x % 2 ^ w) (above-div l (q * 2 ^ top + (v * 2 ^ l + e)) ∙ ap (λ (x : ℕ). x / 2 ^ l) eq ∙ digits-div (q * 2 ^ g * 2 ^ w + v) el)
-    ∙ digits-mod (q * 2 ^ g) (fit .0)
-    , subst (λ (b : ℕ). Says ps b t) (sym eq) (says-from ps (q * 2 ^ g * 2 ^ w + v) t l rest (fit .1)) )
+    ap (λ (x : ℕ). q * 2 ^ x + (v * 2 ^ l + e)) up ∙ regroup q g w l v e
+    in (
+      ap (λ (x : ℕ). x % 2 ^ w) (above-div l (q * 2 ^ top + (v * 2 ^ l + e)) ∙ ap (λ (x : ℕ). x / 2 ^ l) eq ∙ digits-div (q * 2 ^ g * 2 ^ w + v) el)
+          ∙ digits-mod (q * 2 ^ g) (fit .0),
+      subst (λ (b : ℕ). Says ps b t) (sym eq) (says-from ps (q * 2 ^ g * 2 ^ w + v) t l rest (fit .1)),
+    )
 
 -- what is read back is what was written, and the open bits are those that were put in
 says-opened : (ps : List Part) (b : ℕ) (t : Registers) → Says ps b t → opened ps b ≡ encoded ps t
@@ -125,9 +126,11 @@ module _ (i : ℕ) (l : i < 21) (t : Registers) (fit : FitParts (rowNo i .parts)
 
   pub row-byte : rowByte (rowNo i) t < 256
   row-byte =
-      omega
-      (arith, encoded-lt (rowNo i .parts) t (topOf (rowNo i .parts)) in-order fit,
-      leb→le (rowNo i .code + 2 ^ topOf (rowNo i .parts)) 256 (below-at 21 isByte all-bytes i l))
+      omega (
+        arith,
+        encoded-lt (rowNo i .parts) t (topOf (rowNo i .parts)) in-order fit,
+        leb→le (rowNo i .code + 2 ^ topOf (rowNo i .parts)) 256 (below-at 21 isByte all-bytes i l),
+      )
 
 -- ---- the search finds the row
 
@@ -148,6 +151,7 @@ row-found i l t fit h lh e = first-row h (rowByte (rowNo i) t) rows i l hit othe
   where
     hit : matchesAt i h (rowByte (rowNo i) t) ≡ true
     hit = simp (eq-eqb _ _ e, row-takes i l t fit)
+
     others : (j : ℕ) → j < i → matchesAt j h (rowByte (rowNo i) t) ≡ false
     others j k = go (matchesAt j h (rowByte (rowNo i) t)) refl
       where

@@ -61,7 +61,7 @@ allRoom (p ∷ ps) = roomFor (p .target) (p .width) && allRoom ps
 value-bound : (p : Part) (b : ℕ) → value p b ≤ 2 ^ (p .width) - 1
 value-bound p b = omega (arith, mod-lt (above (p .low) b) (pow-pos (p .width)))
 
-grey-limit : (k : ℕ) → k < 4 → getD limits (GS0 + k) 0 ≡ 63
+pub grey-limit : (k : ℕ) → k < 4 → getD limits (GS0 + k) 0 ≡ 63
 grey-limit k h = eqb→eq (getD limits (GS0 + k) 0) 63 (below-at 4 (λ (k : ℕ). eqb (getD limits (GS0 + k) 0) 63) tt k h)
 
 keep-allowed : (n l : ℕ) (x y : Registers) → (n ≤ l → allowedRegisters x ≡ true) → allowedRegisters y ≡ true → allowedRegisters (keep (leb n l) x y) ≡ true

@@ -8,6 +8,7 @@ use lib.Dec.{leb}
 use lib.ListN.{getD, set, length}
 use Rattle.registers.specs.declared.Registers.{Registers}
 use Rattle.registers.specs.declared.Chip.{Chip}
+use Rattle.registers.proofs.Below.{false-true}
 use Rattle.registers.specs.Record.{within, values, limits, allowed, allowedRegisters}
 
 pub both-left : (a b : Bool) → a && b ≡ true → a ≡ true
@@ -16,20 +17,17 @@ both-left false b h = h
 
 pub both-right : (a b : Bool) → a && b ≡ true → b ≡ true
 both-right true b h = h
-both-right false b h = let z : _≡_ {A = Bool} true false = cc in cc
+both-right false b h = absurd (false-true h)
 
 -- a test that fails fails the whole
 within-so-far : (t : Bool) (ns ls : List ℕ) → within t ns ls ≡ true → t ≡ true
 within-so-far t [] ls h = h
-within-so-far t (n ∷ ns) [] h = let z : _≡_ {A = Bool} true false = sym h in cc
+within-so-far t (n ∷ ns) [] h = absurd (false-true h)
 within-so-far t (n ∷ ns) (l ∷ ls) h = both-left t (leb n l) (within-so-far (t && leb n l) ns ls h)
 
 pub within-at : (t : Bool) (ns ls : List ℕ) → within t ns ls ≡ true → (f : ℕ) → getD ns f 0 ≤ getD ls f 0
 within-at t [] ls h f = zero-le
-within-at t (n ∷ ns) [] h f = absurd (no h)
-  where
-    no : false ≡ true → ⊥
-    no e = subst (λ (b : Bool). elim b as (λ _. Type 0) [ true ↦ ⊥ | false ↦ Unit {0} ]) e tt
+within-at t (n ∷ ns) [] h f = absurd (false-true h)
 within-at t (n ∷ ns) (l ∷ ls) h zero = leb-true n l (both-right t (leb n l) (within-so-far (t && leb n l) ns ls h))
 within-at t (n ∷ ns) (l ∷ ls) h (suc f) = within-at (t && leb n l) ns ls h f
 
