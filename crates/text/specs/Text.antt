@@ -7,7 +7,7 @@ use Prim.Native.String.{String}
 use lib.Dec.{eqb, leb}
 use lib.ListN.{length, drop}
 
--- the bytes of a quoted text
+-- the bytes of a quoted text of ASCII letters
 abbrev pub bytes : String → List ℕ
 bytes Prim.Native.String.[] = []
 bytes (Prim.Native.String._∷_ c s) = code c ∷ bytes s

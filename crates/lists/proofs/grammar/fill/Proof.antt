@@ -37,7 +37,11 @@ enum-told-4 : tie.Need-enum-told-4
 enum-told-4 c = search needs
 
 returns-4 : tie.Need-returns-4
-returns-4 c = no-fourth _ _ _ _ _ _ _ _ (c .before .before .before .before .before .before .before .before .before .c0 .given .1) (c .before .before .before .before .before .before .c1 .given .1) (c .before .before .before .b0 .given .1) (c .enum-told4 .given .1)
+returns-4 c =
+    let b0 = c .before .before .before in
+    let c1 = b0 .before .before .before in
+    let c0 = c1 .before .before .before in
+    no-fourth _ _ _ _ _ _ _ _ (c0 .c0 .given .1) (c1 .c1 .given .1) (b0 .b0 .given .1) (c .enum-told4 .given .1)
 
 enum-known-byte : tie.Need-enum-known-byte
 enum-known-byte c = search needs
@@ -46,13 +50,25 @@ enum-told-5 : tie.Need-enum-told-5
 enum-told-5 c = search needs
 
 returns-5 : tie.Need-returns-5
-returns-5 c = no-fifth _ _ _ _ _ _ _ _ (c .before .before .before .before .before .before .before .before .before .before .before .before .c0 .given .1) (c .before .before .before .before .before .before .before .before .before .c1 .given .1) (c .before .before .before .before .before .before .b0 .given .1) _ (c .before .before .before .b1 .given .1) (c .enum-told5 .given .1)
+returns-5 c =
+    let b1 = c .before .before .before in
+    let b0 = b1 .before .before .before in
+    let c1 = b0 .before .before .before in
+    let c0 = c1 .before .before .before in
+    no-fifth _ _ _ _ _ _ _ _ (c0 .c0 .given .1) (c1 .c1 .given .1) (b0 .b0 .given .1) _ (b1 .b1 .given .1) (c .enum-told5 .given .1)
 
 fill-within-requires : tie.Need-fill-within-requires
 fill-within-requires c κs = search needs
 
 returns-6 : tie.Need-returns-6
-returns-6 c = five-values _ _ _ _ _ _ _ _ (c .before .before .before .before .before .before .before .before .before .before .before .before .before .before .c0 .given .1) (c .before .before .before .before .before .before .before .before .before .before .before .c1 .given .1) (c .before .before .before .before .before .before .before .before .b0 .given .1) _ _ _ (c .before .before .before .before .before .b1 .given .1) (c .before .before .byte .given .1) (c .fill-within .ensures)
+returns-6 c =
+    let byte = c .before .before in
+    let b1 = byte .before .before .before in
+    let b0 = b1 .before .before .before in
+    let c1 = b0 .before .before .before in
+    let c0 = c1 .before .before .before in
+    five-values _ _ _ _ _ _ _ _ (c0 .c0 .given .1) (c1 .c1 .given .1) (b0 .b0 .given .1) _ _ _ (b1 .b1 .given .1) (byte .byte .given .1)
+    (c .fill-within .ensures)
 
 pub fill-spec : {M : Type 1} → statement M
 fill-spec =

@@ -28,7 +28,12 @@ fill-line-requires : tie.Need-fill-line-requires
 fill-line-requires c κs = search needs
 
 returns-2 : tie.Need-returns-2
-returns-2 c = is-fill _ _ (c .before .before .before .before .before .before .before .piece .ensures) _ (c .before .before .before .before .before .equal .ensures) (c .before .before .before .before .if1 .left) _ (c .before .before .equal2 .ensures) (c .before .if2 .taken) _ (c .fill-line .ensures)
+returns-2 c =
+    let second = c .before .before in
+    let first = second .before .before .before in
+    is-fill _ _ (first .before .before .piece .ensures) _ (first .equal .ensures) (second .before .before .if1 .left) _ (second .equal2 .ensures)
+    (c .before .if2 .taken) _
+    (c .fill-line .ensures)
 
 slice-aggregate-equal-3 : tie.Need-slice-aggregate-equal-3
 slice-aggregate-equal-3 c = search needs
@@ -40,10 +45,25 @@ set-line-requires : tie.Need-set-line-requires
 set-line-requires c κs = search needs
 
 returns-3 : tie.Need-returns-3
-returns-3 c = is-set _ _ (c .before .before .before .before .before .before .before .before .before .before .piece .ensures) _ (c .before .before .before .before .before .before .before .before .equal .ensures) (c .before .before .before .before .before .before .before .if1 .left) _ (c .before .before .before .before .before .equal2 .ensures) (c .before .before .before .before .if2 .left) _ (c .before .before .equal3 .ensures) (c .before .if3 .taken) _ (c .set-line .ensures)
+returns-3 c =
+    let third = c .before .before in
+    let second = third .before .before .before in
+    let first = second .before .before .before in
+    is-set _ _ (first .before .before .piece .ensures) _ (first .equal .ensures) (second .before .before .if1 .left) _ (second .equal2 .ensures)
+    (third .before .before .if2 .left) _
+    (third .equal3 .ensures)
+    (c .before .if3 .taken) _
+    (c .set-line .ensures)
 
 returns-4 : tie.Need-returns-4
-returns-4 c = is-none _ _ (c .before .before .before .before .before .before .before .before .before .piece .ensures) _ (c .before .before .before .before .before .before .before .equal .ensures) (c .before .before .before .before .before .before .if1 .left) _ (c .before .before .before .before .equal2 .ensures) (c .before .before .before .if2 .left) _ (c .before .equal3 .ensures) (c .if3 .left)
+returns-4 c =
+    let third = c .before in
+    let second = third .before .before .before in
+    let first = second .before .before .before in
+    is-none _ _ (first .before .before .piece .ensures) _ (first .equal .ensures) (second .before .before .if1 .left) _ (second .equal2 .ensures)
+    (third .before .before .if2 .left) _
+    (third .equal3 .ensures)
+    (c .if3 .left)
 
 pub line-spec : {M : Type 1} → statement M
 line-spec =

@@ -20,7 +20,13 @@ fill-requires : tie.Need-fill-requires
 fill-requires c κs = search needs
 
 returns : tie.Need-returns
-returns c = put-four (split 9 (c .before .before .before .before .before .before .before .args .s .now)) _ (c .before .before .before .before .before .pieces .ensures) (c .before .before .before .before .if1 .taken) _ _ _ _ (c .before .before .before .number-at .ensures) (c .before .before .number-at2 .ensures) (c .before .number-at3 .ensures) (c .fill .ensures)
+returns c =
+    let counted = c .before .before .before .before .before in
+    put-four (split 9 (counted .before .before .args .s .now)) _ (counted .pieces .ensures) (c .before .before .before .before .if1 .taken) _ _ _ _
+    (c .before .before .before .number-at .ensures)
+    (c .before .before .number-at2 .ensures)
+    (c .before .number-at3 .ensures)
+    (c .fill .ensures)
 
 returns-2 : tie.Need-returns-2
 returns-2 c = put-other (split 9 (c .before .before .before .args .s .now)) _ (c .before .pieces .ensures) (c .if1 .left)

@@ -20,7 +20,13 @@ set-requires : tie.Need-set-requires
 set-requires c κs = search needs
 
 returns : tie.Need-returns
-returns c = set-three (split 9 (c .before .before .before .before .before .before .before .args .s .now)) _ (c .before .before .before .before .before .pieces .ensures) (c .before .before .before .before .if1 .taken) _ _ _ _ (c .before .before .before .piece .ensures) (c .before .before .field .ensures) (c .before .number-at .ensures) (c .set .ensures)
+returns c =
+    let counted = c .before .before .before .before .before in
+    set-three (split 9 (counted .before .before .args .s .now)) _ (counted .pieces .ensures) (c .before .before .before .before .if1 .taken) _ _ _ _
+    (c .before .before .before .piece .ensures)
+    (c .before .before .field .ensures)
+    (c .before .number-at .ensures)
+    (c .set .ensures)
 
 returns-2 : tie.Need-returns-2
 returns-2 c = set-other (split 9 (c .before .before .before .args .s .now)) _ (c .before .pieces .ensures) (c .if1 .left)

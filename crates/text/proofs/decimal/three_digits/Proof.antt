@@ -36,15 +36,17 @@ add-t15 c = search needs
 
 returns : tie.Need-returns
 returns c =
+    let tested = c .before .before .before .before in
     value _ _ _
-    (told-three _ _ _ _ _ _ _ (c .before .before .before .before .before .before .is-leading .ensures) (c .before .before .before .before .before .is-digit .ensures) (c .before .before .before .before .is-digit2 .ensures)
+    (told-three _ _ _ _ _ _ _ (tested .before .before .is-leading .ensures) (tested .before .is-digit .ensures) (tested .is-digit2 .ensures)
     (c .before .before .before .if1 .taken))
     (omega (arith, c .before .before .digit .ensures, c .before .digit2 .ensures, c .digit3 .ensures))
 
 returns-2 : tie.Need-returns-2
 returns-2 c =
+    let tested = c .before in
     no-value _ _
-    (told-three _ _ _ _ _ _ _ (c .before .before .before .is-leading .ensures) (c .before .before .is-digit .ensures) (c .before .is-digit2 .ensures) (c .if1 .left))
+    (told-three _ _ _ _ _ _ _ (tested .before .before .is-leading .ensures) (tested .before .is-digit .ensures) (tested .is-digit2 .ensures) (c .if1 .left))
 
 pub three-digits-spec : {M : Type 1} → statement M
 three-digits-spec =

@@ -25,7 +25,8 @@ add-t9 c = search needs
 
 returns : tie.Need-returns
 returns c =
-    value _ _ _ (told-two _ _ _ _ _ (c .before .before .before .before .is-leading .ensures) (c .before .before .before .is-digit .ensures) (c .before .before .if1 .taken))
+    let tested = c .before .before .before in
+    value _ _ _ (told-two _ _ _ _ _ (tested .before .is-leading .ensures) (tested .is-digit .ensures) (c .before .before .if1 .taken))
     (ap₂ (λ (a b : ℕ). a * 10 + b) (c .before .digit .ensures) (c .digit2 .ensures))
 
 returns-2 : tie.Need-returns-2

@@ -10,7 +10,9 @@ use Rattle.text.proofs.pieces.index_of.Statement.{statement}
 use Rattle.text.proofs.pieces.index_of.Tie as tie
 
 abbrev Inv-loop : tie.InvT-loop
-Inv-loop s separator word at₀ passed₀ at passed = (at ≤ length s) × (passed ≤ at) × (passed + indexOf word (split separator (drop at s)) ≡ indexOf word (split separator s))
+Inv-loop s separator word at₀ passed₀ at passed =
+    (at ≤ length s) × (passed ≤ at)
+    × (passed + indexOf word (split separator (drop at s)) ≡ indexOf word (split separator s))
 
 abbrev μ-loop : tie.MeasureT-loop
 μ-loop s separator word at₀ passed₀ at passed = length s - at
@@ -35,8 +37,8 @@ equal-requires c κs = search needs
 
 returns : tie.Need-returns Inv-loop μ-loop
 returns c =
-    sym (index-here _ _ _ _ (c .before .before .before .before .loop .inv .0) (c .before .before .before .find .ensures) _ _ (sym (c .before .equal .ensures) ∙ c .if1 .taken))
-    ∙ c .before .before .before .before .loop .inv .2
+    let head = c .before .before .before .before .loop .inv in
+    sym (index-here _ _ _ _ (head .0) (c .before .before .before .find .ensures) _ _ (sym (c .before .equal .ensures) ∙ c .if1 .taken)) ∙ head .2
 
 add-passed : tie.Need-add-passed Inv-loop μ-loop
 add-passed c = search needs

@@ -45,8 +45,8 @@ part-result-end-2 c = search needs
 
 returns-2 : tie.Need-returns-2 Inv-loop μ-loop
 returns-2 c =
-    pieces-none _ _ _ _ (c .before .before .before .before .loop .inv .0) (c .before .before .before .find .ensures) _ (c .before .if2 .taken) (c .before .before .if1 .left)
-    ∙ c .before .before .before .before .loop .inv .1
+    let head = c .before .before .before .before .loop .inv in
+    pieces-none _ _ _ _ (head .0) (c .before .before .before .find .ensures) _ (c .before .if2 .taken) (c .before .before .if1 .left) ∙ head .1
 
 add-at : tie.Need-add-at Inv-loop μ-loop
 add-at c = search needs
