@@ -33,7 +33,7 @@ bytes-replicate : (n d : ℕ) → d < 256 → Bytes (replicate n d)
 bytes-replicate zero d h = tt
 bytes-replicate (suc n) d h = (h, bytes-replicate n d h)
 
-ordered-byte : (t : Bool) (b : ℕ) → b < 256 → cond t (reversedOf b) b < 256
+pub ordered-byte : (t : Bool) (b : ℕ) → b < 256 → cond t (reversedOf b) b < 256
 ordered-byte true b h = reversed-byte b h
 ordered-byte false b h = h
 

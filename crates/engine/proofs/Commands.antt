@@ -28,7 +28,3 @@ page-zero b r = ap (λ (n : ℕ). put H n r) (zero-of b)
   where
     zero-of : (b : ℕ) → 0 ≡ b % 1
     zero-of b = omega arith
-
--- i is none of the numbers up to k
-pub past : (k i : ℕ) → k ≤ i → (i ≡ k → ⊥) → k + 1 ≤ i
-past k i h n = omega arith

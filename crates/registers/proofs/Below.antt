@@ -1,7 +1,7 @@
 -- A test that antt computes at every number below a bound, and the law that gives it at each.
 use mathlib.Core.Path.{_≡_, refl, sym, subst}
 use mathlib.Core.Bool.{Bool, true, false, _&&_}
-use Prim.Native.Nat.{ℕ, zero, suc, _<_}
+use Prim.Native.Nat.{ℕ, zero, suc, _+_, _≤_, _<_}
 use native.Mathlib.Decide.{ℕ-discrete}
 use native.Mathlib.Omega.{arith}
 use lib.Dec.{T}
@@ -42,3 +42,7 @@ same-eq true true t = refl
 same-eq true false t = absurd t
 same-eq false true t = absurd t
 same-eq false false t = refl
+
+-- i is none of the numbers up to k: how the last arm of a match on a number is told
+pub past : (k i : ℕ) → k ≤ i → (i ≡ k → ⊥) → k + 1 ≤ i
+past k i h n = omega arith

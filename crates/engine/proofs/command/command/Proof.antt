@@ -1,6 +1,7 @@
 use mathlib.Core.Path.{_∙_}
 use Prim.Native.Nat.{zero-le}
-use Rattle.engine.proofs.Commands.{by-row, by-none, page-zero, past}
+use Rattle.engine.proofs.Commands.{by-row, by-none, page-zero}
+use Rattle.registers.proofs.Below.{past}
 use borrow.Author.Needs.{needs}
 use Rattle.engine.proofs.command.command.Statement.{statement}
 use Rattle.engine.proofs.command.command.Tie as tie

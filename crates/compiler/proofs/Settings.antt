@@ -1,0 +1,148 @@
+-- What a set does, place by place and row by row.
+use mathlib.Core.Bool.{Bool, true, false, cond, _&&_}
+use mathlib.Core.List.{List, [], _∷_, _++_}
+use mathlib.Core.Path.{_≡_, refl, sym, ap, _∙_, subst}
+use Prim.Native.Nat.{ℕ, _+_, _-_, _*_, _^_, _≤_, _<_}
+use native.Mathlib.Decide.{ℕ-discrete}
+use native.Mathlib.Omega.{arith}
+use borrow.Author.Tests.{lt-leb, le-leb, eq-eqb, ne-eqb}
+use lib.Dec.{T, eqb, leb, eqb→eq, leb→le}
+use lib.ListN.{getD, length, List·getD-eq-default, List·getD-map}
+use lib.Seq.{set-out}
+use Rattle.registers.specs.declared.Registers.{Registers}
+use Rattle.registers.specs.Data.{pages}
+use Rattle.registers.specs.Encode.{held, rowByte, rowFor, isGrey}
+use Rattle.registers.specs.Places.{GR, GS0}
+use Rattle.registers.specs.Record.{values, ofValues, put}
+use Rattle.registers.specs.Table.{Row, rows, noRow}
+use Rattle.registers.specs.Table.Target.{selected}
+use Rattle.registers.proofs.Below.{allBelow, below-at, and-right, past}
+use Rattle.compiler.specs.Plain.{setTo}
+use Rattle.compiler.specs.Stream.{pageOf, leave, enter, change, rowBytes, setCommands}
+
+-- ---- the registers after a set
+
+pub by-field : (f k n : ℕ) (r x : Registers) → f ≡ k → x ≡ setTo k n r → x ≡ setTo f n r
+by-field f k n r x at h = h ∙ ap (λ (j : ℕ). setTo j n r) (sym at)
+
+-- past the last register nothing is set
+pub by-no-field : (f n : ℕ) (r : Registers) → 29 ≤ f → r ≡ setTo f n r
+unfolding setTo
+by-no-field f n r h =
+    sym (ap (λ (b : Bool). cond (leb GS0 f && b) (put f n (put GR (f - GS0) r)) (put f n r)) (lt-leb f 24 (omega arith))
+    ∙ ap (λ (b : Bool). cond (b && false) (put f n (put GR (f - GS0) r)) (put f n r)) (le-leb GS0 f (omega arith))
+    ∙ ap ofValues (set-out (values r) f n h))
+
+-- ---- the row that sets a register
+
+abbrev rowNumbers : List ℕ
+rowNumbers =
+    1 ∷ 3 ∷ 3 ∷ 3 ∷ 6 ∷ 6 ∷ 7 ∷ 7 ∷ 7 ∷ 21 ∷ 21 ∷ 8 ∷ 9 ∷ 10 ∷ 11 ∷ 11 ∷ 12 ∷ 13 ∷ 14 ∷ 15 ∷ 16
+    ∷ 17 ∷ 17 ∷ 17 ∷ 17 ∷ 18 ∷ 18 ∷ 19 ∷ 19 ∷ []
+
+all-rows : T (allBelow 29 (λ f. eqb (getD rowNumbers f 0) (rowFor f)))
+all-rows = tt
+
+pub row-for-at : (f : ℕ) → f < 29 → getD rowNumbers f 0 ≡ rowFor f
+row-for-at f h = eqb→eq (getD rowNumbers f 0) (rowFor f) (below-at 29 (λ f. eqb (getD rowNumbers f 0) (rowFor f)) all-rows f h)
+
+no-rows : T (allBelow 227 (λ k. eqb 21 (rowFor (k + 29))))
+no-rows = tt
+
+pub no-row-for : (f : ℕ) → f < 256 → 29 ≤ f → 21 ≡ rowFor f
+no-row-for f h l =
+    eqb→eq 21 (rowFor (f - 29 + 29)) (below-at 227 (λ k. eqb 21 (rowFor (k + 29))) no-rows (f - 29) (omega arith))
+    ∙ ap rowFor back
+  where
+    back : f - 29 + 29 ≡ f
+    back = omega arith
+
+-- ---- a row's byte
+
+pub by-row : (i k : ℕ) (t : Registers) (x : ℕ) → i ≡ k → x ≡ rowByte (getD rows k noRow) t → x ≡ rowByte (getD rows i noRow) t
+by-row i k t x at h = h ∙ ap (λ (j : ℕ). rowByte (getD rows j noRow) t) (sym at)
+
+pub by-no-row : (i : ℕ) (t : Registers) → 21 ≤ i → 0 ≡ rowByte (getD rows i noRow) t
+by-no-row i t h = sym (ap (λ (w : Row). rowByte w t) (List·getD-eq-default rows noRow h))
+
+pub one-byte : (x n a : ℕ) → x ≡ n + a → x ≡ n + (a * 2 ^ 0 + 0)
+one-byte x n a h = omega arith
+
+pub two-byte : (x n a b : ℕ) → x ≡ n + a * 2 + b → x ≡ n + (a * 2 ^ 1 + (b * 2 ^ 0 + 0))
+two-byte x n a b h = omega arith
+
+pub three-byte : (x n a b d : ℕ) → x ≡ n + a * 4 + b * 2 + d → x ≡ n + (a * 2 ^ 2 + (b * 2 ^ 1 + (d * 2 ^ 0 + 0)))
+three-byte x n a b d h = omega arith
+
+pub three-up-byte : (x n a b d : ℕ) → x ≡ n + a * 8 + b * 4 + d * 2 → x ≡ n + (a * 2 ^ 3 + (b * 2 ^ 2 + (d * 2 ^ 1 + 0)))
+three-up-byte x n a b d h = omega arith
+
+pub grey-byte : (x a : ℕ) (t : Registers) → x ≡ 128 + a → a ≡ held selected t → x ≡ 128 + (held selected t * 2 ^ 0 + 0)
+grey-byte x a t h e = one-byte x 128 (held selected t) (h ∙ ap (λ (n : ℕ). 128 + n) e)
+
+-- ---- the commands of a set
+
+pub page-at : (x i : ℕ) → x ≡ getD pages i 0 → x ≡ pageOf i
+page-at x i h = h ∙ List·getD-map (λ (w : Row). w .page) rows i noRow
+
+grey-rows : T (allBelow 29 (λ f. cond (isGrey f) (eqb (rowFor f) 17) true))
+grey-rows = tt
+
+grey-row : (f : ℕ) → f < 29 → isGrey f ≡ true → rowFor f ≡ 17
+grey-row f h g =
+    eqb→eq (rowFor f) 17
+    (subst (λ (b : Bool). T (cond b (eqb (rowFor f) 17) true)) g
+    (below-at 29 (λ f. cond (isGrey f) (eqb (rowFor f) 17) true) grey-rows f h))
+
+pub grey-commands : (f s l : ℕ) (t : Registers) → isGrey f ≡ true → s ≡ rowByte (getD rows 16 noRow) t → l ≡ rowByte (getD rows 17 noRow) t → 1 ∷ 11 ∷ s ∷ l ∷ 1 ∷ [] ≡ setCommands f t
+grey-commands f s l t g e d =
+    ap (λ (n : ℕ). 1 ∷ 11 ∷ n ∷ l ∷ 1 ∷ []) e
+    ∙ ap (λ (n : ℕ). 1 ∷ 11 ∷ rowByte (getD rows 16 noRow) t ∷ n ∷ 1 ∷ []) d
+    ∙ sym (ap (λ (b : Bool). 1 ∷ rowBytes 0 (cond b (16 ∷ rowFor f ∷ []) (rowFor f ∷ [])) t) g
+    ∙ ap (λ (i : ℕ). 1 ∷ rowBytes 0 (16 ∷ i ∷ []) t) (grey-row f (omega (arith, below)) g))
+  where
+    below : f ≤ 24
+    below = leb→le f 24 (and-right (leb GS0 f) (leb f 24) (subst T (sym g) tt))
+
+module _ (f p b : ℕ) (t : Registers) (g : isGrey f ≡ false) (i : ℕ) (row : i ≡ rowFor f) (page : p ≡ pageOf i) (byte : b ≡ rowByte (getD rows i noRow) t) where
+  in-row : 1 ∷ change 0 p ++ b ∷ leave p ≡ setCommands f t
+  in-row =
+      ap (λ (n : ℕ). 1 ∷ change 0 p ++ n ∷ leave p) byte
+      ∙ ap (λ (q : ℕ). 1 ∷ change 0 q ++ rowByte (getD rows i noRow) t ∷ leave q) page
+      ∙ ap (λ (j : ℕ). 1 ∷ rowBytes 0 (j ∷ []) t) row
+      ∙ sym (ap (λ (b : Bool). 1 ∷ rowBytes 0 (cond b (16 ∷ rowFor f ∷ []) (rowFor f ∷ [])) t) g)
+
+  pub page-0-commands : p ≡ 0 → 1 ∷ b ∷ [] ≡ setCommands f t
+  page-0-commands e = sym (ap (λ (q : ℕ). 1 ∷ change 0 q ++ b ∷ leave q) e) ∙ in-row
+
+  pub page-commands : (n : ℕ) → n ≡ 8 + p → (p ≡ 0 → ⊥) → 1 ∷ n ∷ b ∷ 1 ∷ [] ≡ setCommands f t
+  page-commands n e d =
+      ap (λ (m : ℕ). 1 ∷ m ∷ b ∷ 1 ∷ []) e
+      ∙ sym (ap (λ (c : Bool). 1 ∷ cond c [] (enter p) ++ b ∷ leave p) (ne-eqb 0 p (λ z. d (sym z)))
+      ∙ ap (λ (c : Bool). 1 ∷ cond c [] ((8 + p) ∷ []) ++ b ∷ cond c [] (1 ∷ [])) (ne-eqb p 0 d))
+      ∙ in-row
+
+-- ---- how many commands a set has
+
+abbrev pub setLength : ℕ → ℕ
+setLength f = cond (isGrey f) 5 (cond (eqb (pageOf (rowFor f)) 0) 2 4)
+
+pub set-length : (f : ℕ) (t : Registers) → length (setCommands f t) ≡ setLength f
+set-length f t = go (isGrey f) refl (ℕ-discrete (pageOf (rowFor f)) 0)
+  where
+    go : (b : Bool) → isGrey f ≡ b → Dec (pageOf (rowFor f) ≡ 0) → length (setCommands f t) ≡ setLength f
+    go true g d = sym (ap length (grey-commands f _ _ t g refl refl)) ∙ sym (ap (λ (b : Bool). cond b 5 (cond (eqb (pageOf (rowFor f)) 0) 2 4)) g)
+    go false g (yes e) =
+        sym (ap length (page-0-commands f _ _ t g (rowFor f) refl refl refl e))
+        ∙ sym (ap (λ (b : Bool). cond b 5 (cond (eqb (pageOf (rowFor f)) 0) 2 4)) g ∙ ap (λ (b : Bool). cond b 2 4) (eq-eqb (pageOf (rowFor f)) 0 e))
+    go false g (no d) =
+        sym (ap length (page-commands f _ _ t g (rowFor f) refl refl refl _ refl d))
+        ∙ sym (ap (λ (b : Bool). cond b 5 (cond (eqb (pageOf (rowFor f)) 0) 2 4)) g ∙ ap (λ (b : Bool). cond b 2 4) (ne-eqb (pageOf (rowFor f)) 0 d))
+
+pub set-length-bound : (f : ℕ) (t : Registers) → length (setCommands f t) ≤ 5
+set-length-bound f t = subst (λ (n : ℕ). n ≤ 5) (sym (set-length f t)) (go (isGrey f) (eqb (pageOf (rowFor f)) 0))
+  where
+    go : (a b : Bool) → cond a 5 (cond b 2 4) ≤ 5
+    go true b = omega arith
+    go false true = omega arith
+    go false false = omega arith
