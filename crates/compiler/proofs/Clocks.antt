@@ -20,7 +20,7 @@ pub bytes-append : (xs ys : List ℕ) → byteEvents (xs ++ ys) ≡ byteEvents x
 bytes-append [] ys = sym (zero-add (byteEvents ys))
 bytes-append (x ∷ xs) ys = omega (arith, bytes-append xs ys)
 
-byte-counts : (e : ℕ) → e < 256 → _≡_ {A = ℕ} (cond (ltb e 256) 1 0) 1
+pub byte-counts : (e : ℕ) → e < 256 → _≡_ {A = ℕ} (cond (ltb e 256) 1 0) 1
 byte-counts e h = ap {B = ℕ} (λ (t : Bool). cond t 1 0) (lt-ltb e 256 h)
 
 pub bytes-replicate : (n e : ℕ) → e < 256 → byteEvents (replicate n e) ≡ n

@@ -3,6 +3,9 @@ pub mod Demand3
 pub mod Emits
 pub mod Fill
 pub mod Fills
+pub mod Fits
+pub mod Lines
 pub mod Set
 pub mod Sets
 pub mod Settings
+pub mod Tracked

@@ -78,12 +78,12 @@ module _ (f : ℕ) (row : SimpleRow f) (t r : Registers) (zero-page : r .h ≡ 0
 
 -- ---- any register but the grey ones
 
-put-blank : (f n : ℕ) (r : Registers) → (f ≡ H → ⊥) → (f ≡ X → ⊥) → (f ≡ Y → ⊥) → blank r ≡ r → blank (put f n r) ≡ put f n r
+pub put-blank : (f n : ℕ) (r : Registers) → (f ≡ H → ⊥) → (f ≡ X → ⊥) → (f ≡ Y → ⊥) → blank r ≡ r → blank (put f n r) ≡ put f n r
 put-blank f n r h x y b =
     blank-self (put f n r) (put-other f n r H (λ e. h (sym e)) ∙ sym (ap (λ (z : Registers). at z H) b))
     (put-other f n r X (λ e. x (sym e)) ∙ sym (ap (λ (z : Registers). at z X) b)) (put-other f n r Y (λ e. y (sym e)) ∙ sym (ap (λ (z : Registers). at z Y) b))
 
-blank-allowed : (r : Registers) → allowedRegisters r ≡ true → allowedRegisters (blank r) ≡ true
+pub blank-allowed : (r : Registers) → allowedRegisters r ≡ true → allowedRegisters (blank r) ≡ true
 blank-allowed r h = put-allowed H 0 (put X 0 (put Y 0 r)) zero-le (put-allowed X 0 (put Y 0 r) zero-le (put-allowed Y 0 r zero-le h))
 
 -- a value within its limit, for a register that a set can name
@@ -224,7 +224,7 @@ module _ (k n : ℕ) (lk : k < 4) (ln : n ≤ 63) (r : Registers) (page : r .h �
 not-apart : (f : ℕ) → (f ≡ H → ⊥) → (f ≡ X → ⊥) → (f ≡ Y → ⊥) → isGrey f ≡ false → isApart f ≡ false
 not-apart f h x y g = simp (ne-eqb f H h, ne-eqb f X x, ne-eqb f Y y, g)
 
-grey-bounds : (f : ℕ) → isGrey f ≡ true → (GS0 ≤ f) × (f ≤ GS3)
+pub grey-bounds : (f : ℕ) → isGrey f ≡ true → (GS0 ≤ f) × (f ≤ GS3)
 grey-bounds f e = (leb-true GS0 f (both-left (leb GS0 f) (leb f GS3) e), leb-true f GS3 (both-right (leb GS0 f) (leb f GS3) e))
 
 set-registers :
@@ -270,7 +270,7 @@ simple-bytes f row t ok = (
       (row-byte (rowFor f) (row .listed) t (simple-fits (partsFor f) (row .registers-only) t ok), leave-bytes (pageOf (rowFor f))),
 )
 
-set-bytes : (f n : ℕ) → SetFits f n → (r : Registers) → r .h ≤ 4 → allowedRegisters r ≡ true → Bytes (setCommands f (setTo f n (blank r)))
+pub set-bytes : (f n : ℕ) → SetFits f n → (r : Registers) → r .h ≤ 4 → allowedRegisters r ≡ true → Bytes (setCommands f (setTo f n (blank r)))
 set-bytes f n fits r page ok = go (isGrey f) refl
   where
     go : (b : Bool) → isGrey f ≡ b → Bytes (setCommands f (setTo f n (blank r)))

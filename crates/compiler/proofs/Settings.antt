@@ -19,6 +19,7 @@ use Rattle.registers.specs.Table.Target.{selected}
 use Rattle.registers.proofs.Below.{allBelow, below-at, and-right, past}
 use Rattle.compiler.specs.Plain.{setTo}
 use Rattle.compiler.specs.Stream.{pageOf, leave, enter, change, rowBytes, setCommands}
+use Rattle.compiler.specs.Writes.{setLength}
 
 -- ---- the registers after a set
 
@@ -124,23 +125,30 @@ module _ (f p b : ℕ) (t : Registers) (g : isGrey f ≡ false) (i : ℕ) (row :
 
 -- ---- how many commands a set has
 
-abbrev pub setLength : ℕ → ℕ
-setLength f = cond (isGrey f) 5 (cond (eqb (pageOf (rowFor f)) 0) 2 4)
+module _ (f : ℕ) where
+  pub grey-count : isGrey f ≡ true → 5 ≡ setLength f
+  grey-count g = sym (ap (λ (b : Bool). cond b 5 (cond (eqb (pageOf (rowFor f)) 0) 2 4)) g)
+
+  module _ (i p : ℕ) (g : isGrey f ≡ false) (row : i ≡ rowFor f) (page : p ≡ pageOf i) where
+    plain-count : setLength f ≡ cond (eqb p 0) 2 4
+    plain-count = ap (λ (b : Bool). cond b 5 (cond (eqb (pageOf (rowFor f)) 0) 2 4)) g ∙ sym (ap (λ (j : ℕ). cond (eqb j 0) 2 4) (page ∙ ap pageOf row))
+
+    pub page-0-count : p ≡ 0 → 2 ≡ setLength f
+    page-0-count e = sym (plain-count ∙ ap (λ (b : Bool). cond b 2 4) (eq-eqb p 0 e))
+
+    pub page-count : (p ≡ 0 → ⊥) → 4 ≡ setLength f
+    page-count d = sym (plain-count ∙ ap (λ (b : Bool). cond b 2 4) (ne-eqb p 0 d))
 
 pub set-length : (f : ℕ) (t : Registers) → length (setCommands f t) ≡ setLength f
 set-length f t = go (isGrey f) refl (ℕ-discrete (pageOf (rowFor f)) 0)
   where
     go : (b : Bool) → isGrey f ≡ b → Dec (pageOf (rowFor f) ≡ 0) → length (setCommands f t) ≡ setLength f
-    go true g d = sym (ap length (grey-commands f _ _ t g refl refl)) ∙ sym (ap (λ (b : Bool). cond b 5 (cond (eqb (pageOf (rowFor f)) 0) 2 4)) g)
-    go false g (yes e) =
-        sym (ap length (page-0-commands f _ _ t g (rowFor f) refl refl refl e))
-        ∙ sym (ap (λ (b : Bool). cond b 5 (cond (eqb (pageOf (rowFor f)) 0) 2 4)) g ∙ ap (λ (b : Bool). cond b 2 4) (eq-eqb (pageOf (rowFor f)) 0 e))
-    go false g (no d) =
-        sym (ap length (page-commands f _ _ t g (rowFor f) refl refl refl _ refl d))
-        ∙ sym (ap (λ (b : Bool). cond b 5 (cond (eqb (pageOf (rowFor f)) 0) 2 4)) g ∙ ap (λ (b : Bool). cond b 2 4) (ne-eqb (pageOf (rowFor f)) 0 d))
+    go true g d = sym (ap length (grey-commands f _ _ t g refl refl)) ∙ grey-count f g
+    go false g (yes e) = sym (ap length (page-0-commands f _ _ t g (rowFor f) refl refl refl e)) ∙ page-0-count f _ _ g refl refl e
+    go false g (no d) = sym (ap length (page-commands f _ _ t g (rowFor f) refl refl refl _ refl d)) ∙ page-count f _ _ g refl refl d
 
-pub set-length-bound : (f : ℕ) (t : Registers) → length (setCommands f t) ≤ 5
-set-length-bound f t = subst (λ (n : ℕ). n ≤ 5) (sym (set-length f t)) (go (isGrey f) (eqb (pageOf (rowFor f)) 0))
+pub set-length-bound : (f : ℕ) → setLength f ≤ 5
+set-length-bound f = go (isGrey f) (eqb (pageOf (rowFor f)) 0)
   where
     go : (a b : Bool) → cond a 5 (cond b 2 4) ≤ 5
     go true b = omega arith

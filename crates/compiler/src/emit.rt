@@ -53,7 +53,7 @@ pub fn head(out: &mut [u16], at: usize, address: u16, x: u16, y: u16) -> usize
     put(out, at_y, 64)
 }
 
-fn write_address(pins: u8) -> u16
+pub fn write_address(pins: u8) -> u16
     ensures { λ r. ⌜ r ≡ writeAddress pins ⌝ }
 {
     120 + 2 * (pins as u16)

@@ -1,12 +1,13 @@
 // What a set does: the registers after it, and the rows and bytes of its commands.
 ghost use mathlib.Core.Path.{_≡_};
 ghost use Prim.Native.Nat.{_+_, _*_, _≤_};
-ghost use lib.ListN.{getD, take};
+ghost use lib.ListN.{getD, length, take};
 ghost use Rattle.registers.specs.Encode.{held, rowByte, rowFor, isGrey};
 ghost use Rattle.registers.specs.Table.{rows, noRow};
 ghost use Rattle.registers.specs.Table.Target.{selected};
 ghost use Rattle.compiler.specs.Plain.{setTo};
 ghost use Rattle.compiler.specs.Stream.{pageOf, setCommands};
+ghost use Rattle.compiler.specs.Writes.{setLength};
 use registers::Registers;
 
 // The row that sets each register, in document 01's order; X and Y have none, and 21 is no row.
@@ -193,7 +194,7 @@ pub struct Commands {
 
 // Page return; the page command unless page 0; the row's byte, for a grey register after the row that selects it; back to page 0.
 pub fn set_commands(field: u8, target: Registers) -> Commands
-    ensures { λ r. ⌜ (take (r .count) (r .bytes) ≡ setCommands field target) × (r .count ≤ 5) ⌝ }
+    ensures { λ r. ⌜ (take (r .count) (r .bytes) ≡ setCommands field target) × (r .count ≤ length (r .bytes)) ⌝ }
 {
     if is_grey(field) {
         let select = row_byte(16, target);
@@ -217,4 +218,17 @@ pub fn set_commands(field: u8, target: Registers) -> Commands
         bytes: [1, enter, byte, 1, 0],
         count: 4,
     }
+}
+
+// How many commands a set has.
+pub fn commands_count(field: u8) -> usize
+    ensures { λ r. ⌜ r ≡ setLength field ⌝ }
+{
+    if is_grey(field) {
+        return 5;
+    }
+    if page_of(row_for(field)) == 0 {
+        return 2;
+    }
+    4
 }

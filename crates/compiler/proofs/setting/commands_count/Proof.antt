@@ -1,0 +1,28 @@
+use mathlib.Core.Path.{sym, _∙_}
+use Rattle.compiler.proofs.Settings.{grey-count, page-0-count, page-count}
+use borrow.Author.Needs.{needs}
+use Rattle.compiler.proofs.setting.commands_count.Statement.{statement}
+use Rattle.compiler.proofs.setting.commands_count.Tie as tie
+
+is-grey-requires : tie.Need-is-grey-requires
+is-grey-requires c κs = search needs
+
+returns : tie.Need-returns
+returns c = grey-count (c .before .before .args .field) (sym (c .before .is-grey .ensures) ∙ c .if1 .taken)
+
+row-for-requires : tie.Need-row-for-requires
+row-for-requires c κs = search needs
+
+page-of-requires : tie.Need-page-of-requires
+page-of-requires c κs = search needs
+
+returns-2 : tie.Need-returns-2
+returns-2 c = page-0-count (c .before .before .before .before .before .args .field) _ _ (sym (c .before .before .before .before .is-grey .ensures) ∙ c .before .before .before .if1 .left) (c .before .before .row-for .ensures) (c .before .page-of .ensures) (c .if2 .taken)
+
+returns-3 : tie.Need-returns-3
+returns-3 c = page-count (c .before .before .before .before .before .args .field) _ _ (sym (c .before .before .before .before .is-grey .ensures) ∙ c .before .before .before .if1 .left) (c .before .before .row-for .ensures) (c .before .page-of .ensures) (c .if2 .left)
+
+pub commands-count-spec : {M : Type 1} → statement M
+commands-count-spec =
+    tie.close
+    (tie.spec is-grey-requires returns row-for-requires page-of-requires returns-2 returns-3)

@@ -1,0 +1,107 @@
+// One line of a list: the registers after it, how many events it takes, and the events themselves.
+ghost use mathlib.Core.Path.{_≡_};
+ghost use Prim.Native.Nat.{_+_, _≤_};
+ghost use lib.ListN.{length};
+ghost use Rattle.lists.specs.Spelling.{Sound};
+ghost use Rattle.compiler.specs.Plain.{registersAfter};
+ghost use Rattle.compiler.specs.Stream.{lineEvents, byteEvents};
+ghost use Rattle.compiler.specs.Writes.{Wrote, Tracked};
+use crate::emit;
+use crate::message;
+use crate::setting;
+use lists::Line;
+use registers::Registers;
+
+// The registers that the next line finds.
+pub fn after(line: Line, registers: Registers) -> Registers
+    ensures { λ r. ⌜ r ≡ registersAfter line registers ⌝ }
+{
+    match line {
+        Line::Fill {
+            first_column: _,
+            last_column: _,
+            first_bank: _,
+            last_bank: _,
+            byte: _,
+        } => registers,
+        Line::Set { field, value } => setting::with_field(registers, field, value),
+    }
+}
+
+// How many events a line takes.
+pub fn events(line: Line, registers: Registers, pins: u8) -> usize
+    requires { ⌜ Sound line ⌝ }
+    ensures { λ r. ⌜ r ≡ length (lineEvents pins line registers) ⌝ }
+{
+    match line {
+        Line::Fill {
+            first_column,
+            last_column,
+            first_bank,
+            last_bank,
+            byte: _,
+        } => emit::fill_count(
+            registers,
+            first_column,
+            last_column,
+            first_bank,
+            last_bank,
+            10,
+        ),
+        Line::Set { field, value: _ } => setting::commands_count(field) * 2 + 3,
+    }
+}
+
+// How many of them are bytes.
+pub fn bytes(line: Line, registers: Registers, pins: u8) -> usize
+    requires { ⌜ Sound line × Tracked registers × (pins ≤ 3) ⌝ }
+    ensures { λ r. ⌜ r ≡ byteEvents (lineEvents pins line registers) ⌝ }
+{
+    match line {
+        Line::Fill {
+            first_column,
+            last_column,
+            first_bank,
+            last_bank,
+            byte: _,
+        } => emit::fill_count(
+            registers,
+            first_column,
+            last_column,
+            first_bank,
+            last_bank,
+            8,
+        ),
+        Line::Set { field, value: _ } => setting::commands_count(field) * 2 + 1,
+    }
+}
+
+// The events of a line.
+pub fn write(out: &mut [u16], at: usize, line: Line, registers: Registers, pins: u8) -> usize
+    requires { ⌜ Sound line × (at + length (lineEvents pins line registers) ≤ length (now out)) ⌝ }
+    ensures { λ r. ⌜ Wrote (now (out .entry)) at (lineEvents pins line registers) (now (out .exit)) r ⌝ }
+{
+    match line {
+        Line::Fill {
+            first_column,
+            last_column,
+            first_bank,
+            last_bank,
+            byte,
+        } => emit::fill(
+            out,
+            at,
+            pins,
+            registers,
+            first_column,
+            last_column,
+            first_bank,
+            last_bank,
+            byte,
+        ),
+        Line::Set { field, value } => {
+            let target = setting::with_field(registers, field, value);
+            message::set(out, at, pins, field, target)
+        }
+    }
+}
