@@ -5,7 +5,9 @@ pub mod Fill
 pub mod Fills
 pub mod Fits
 pub mod Lines
+pub mod Passes
 pub mod Set
 pub mod Sets
 pub mod Settings
 pub mod Tracked
+pub mod Ways

@@ -1,13 +1,17 @@
 -- Demand 3, undivided (document 01, "Playing"): what a drawing list's events do to a chip is what the list says.
 use mathlib.Core.List.{List}
 use mathlib.Core.Path.{_≡_}
-use Prim.Native.Nat.{ℕ, _<_}
-use lib.ListN.{getD, length}
-use Rattle.registers.specs.State.{State}
+use Prim.Native.Nat.{ℕ, _+_, _^_, _<_}
+use lib.ListN.{getD, length, take}
+use Rattle.registers.specs.declared.Chip.{Chip}
+use Rattle.registers.specs.State.{State, state}
 use Rattle.chip.specs.LastWriter.{before}
 use Rattle.chip.specs.Plays.{Good, played}
-use Rattle.chip.specs.Promised.{runOf, outcome}
+use Rattle.chip.specs.Promised.{Fit, runOf, outcome}
 use Rattle.lists.specs.declared.Line.{Line}
+use Rattle.lists.specs.Lists.{lines, readingOf}
+use Rattle.compiler.specs.declared.Compiled.{Compiled}
+use Rattle.compiler.specs.declared.Compiled.the-variants.{Done}
 use Rattle.compiler.specs.Plain.{pictureOf, plain}
 
 -- the events es of the lines ls, played to the chip of s one after the other
@@ -18,3 +22,14 @@ pub record Demand3 (ls : List Line) (es : List ℕ) (s : State) : Type 0 where
   pub same-picture : pictureOf (played es s) ≡ plain ls (pictureOf s)
   -- the run over the same events ends in the same record and memories, and does them all
   pub same-run : runOf es s ≡ outcome (length es) 0 (played es s)
+
+-- the text has a plain reading, and the output's first n events play it on the record it was compiled for: with any two memories that 1 lets
+-- pass, the record being one that 2 lets pass, and with room in the count
+pub record Draws (c : Chip) (text : List ℕ) (n : ℕ) (out : List ℕ) : Type 0 where
+  pub list : List Line
+  pub reads : readingOf text ≡ lines list
+  pub plays : (m w : List ℕ) → Fit (state c m w) → c .count + n < 2 ^ 64 → Demand3 list (take n out) (state c m w)
+
+-- what `compile` promises of an output that it wrote
+abbrev pub Promise : Compiled → Chip → List ℕ → List ℕ → Type 0
+Promise r c text out = (n k : ℕ) → r ≡ Done n k → Draws c text n out

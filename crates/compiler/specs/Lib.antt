@@ -1,3 +1,4 @@
+pub mod Compile
 pub mod Demand3
 pub mod Plain
 pub mod Stream

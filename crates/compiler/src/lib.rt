@@ -1,6 +1,62 @@
-// Drawing lists to bus events. What a list means and which events say it stand in specs/; here are the parts of the compiler that are proved so far:
-// the writers of events, and what a set does.
+// Drawing lists to bus events. What a list means, which events say it, and that the two agree on every chip stands in specs/.
+ghost use mathlib.Core.Path.{_≡_};
+ghost use Rattle.registers.specs.Record.{blank};
+ghost use Rattle.compiler.specs.Compile.{result, compileOf};
+ghost use Rattle.compiler.specs.Demand3.{Promise};
+use measure::Measured;
+use registers::Chip;
+use registers::Registers;
+
 mod emit;
 mod line;
+mod measure;
 mod message;
 mod setting;
+mod write;
+
+// `clocks` are the bus clocks that the events take, nine for each byte.
+pub enum Compiled {
+    Done { length: usize, clocks: usize },
+    Refused(u8),
+    BadLine { number: u8, line: usize },
+    Short { needed: usize },
+}
+
+const NEWLINE: u8 = 10;
+
+// The registers that a list says something of. H, X and Y are blanked: every message sets its own.
+fn blanked(mut registers: Registers) -> Registers
+    ensures { λ r. ⌜ r ≡ blank registers ⌝ }
+{
+    registers.h = 0;
+    registers.x = 0;
+    registers.y = 0;
+    registers
+}
+
+// The bus events that draw a list on the chip with this record, written from the output's first word on.
+pub fn compile(chip: Chip, text: &[u8], out: &mut [u16]) -> Compiled
+    ensures { λ r. ⌜ result r (now (out .exit)) ≡ compileOf chip (now (text .entry)) (now (out .entry)) ⌝ }
+    ensures { λ r. ⌜ Promise r chip (now (text .entry)) (now (out .exit)) ⌝ }
+{
+    if !chip.allowed() {
+        return Compiled::Refused(2);
+    }
+    if 4096 < text::search::count(text, NEWLINE) {
+        return Compiled::Refused(9);
+    }
+    let registers = blanked(chip.registers);
+    match measure::measure(text, registers, chip.pins) {
+        Measured::Fault { number, line } => Compiled::BadLine { number, line },
+        Measured::Whole { length, bytes } => {
+            if out.len() < length {
+                return Compiled::Short { needed: length };
+            }
+            write::write(out, text, registers, chip.pins);
+            Compiled::Done {
+                length,
+                clocks: 9 * bytes,
+            }
+        }
+    }
+}

@@ -1,5 +1,5 @@
 -- The line at a place of a text, and the reading of a whole text restated place by place.
-use mathlib.Core.Path.{_≡_, refl, _∙_}
+use mathlib.Core.Path.{_≡_, refl, sym, ap, _∙_}
 use mathlib.Core.List.{List, [], _∷_}
 use Prim.Native.Nat.{ℕ, _+_, _-_, _≤_, _<_}
 use native.Mathlib.Decide.{decLe, decLt}
@@ -8,13 +8,15 @@ use borrow.Author.Tests.{lt-ltb, le-ltb}
 use lib.ListN.{length, take, drop, length-take, length-drop, drop-of-length-le}
 use Rattle.text.specs.Text.{split, findOf}
 use Rattle.text.proofs.Finding.{find-none}
-use Rattle.text.proofs.Splitting.{end-bounds, pieces-last, pieces-more, split-some}
+use Rattle.text.proofs.Splitting.{end-bounds, pieces-last, pieces-more, split-count, split-some}
 use Rattle.lists.specs.declared.Line.{Line}
 use Rattle.lists.specs.declared.LineAt.{LineAt}
 use Rattle.lists.specs.declared.Parsed.{Parsed}
 use Rattle.lists.specs.declared.Parsed.the-variants.{Good, Bad}
 use Rattle.lists.specs.Line.{lineOf}
-use Rattle.lists.specs.Lists.{newline, faulty, lines, alsoLine, withLine, lastPiece, piecesFrom, readingFrom, readingOf, lineAt}
+use Rattle.lists.specs.Lists.{newline, newlines, faulty, lines, alsoLine, withLine, lastPiece, piecesFrom, readingFrom, readingOf, lineAt}
+use Rattle.lists.specs.Spelling.{Sound}
+use Rattle.lists.proofs.Laws.{sound}
 
 -- the newline at `end`, or none
 module _ (text : List ℕ) (at end : ℕ) (e : end ≡ findOf text at newline) where
@@ -98,6 +100,36 @@ module _ (text : List ℕ) (at n : ℕ) (l : at < length text) (x : LineAt) (e :
 
   pub reading-next : (at < x .next) × (x .next ≤ length text)
   reading-next = rw e (next-after text at l, next-bound text at)
+
+-- an accepted line is within its limits, and its newline is one of those left
+good-or-bad : (y : Line) (k : ℕ) → Bad k ≡ Good y → ⊥
+good-or-bad y k q = let z : _≡_ {A = ℕ} 0 1 = cc in omega arith
+
+module _ (text : List ℕ) (at : ℕ) (l : at < length text) (x : LineAt) (e : x ≡ lineAt text at) (y : Line) (q : x .parsed ≡ Good y) where
+  -- the newline that ends it
+  line-ended : findOf text at newline < length text
+  line-ended = go (decLt (findOf text at newline) (length text))
+    where
+      go : Dec (findOf text at newline < length text) → findOf text at newline < length text
+      go (yes h) = h
+      go (no m) =
+          absurd (good-or-bad y 6 (ap (λ (z : LineAt). z .parsed) (line-missing text at (findOf text at newline) refl (omega arith) ∙ sym e) ∙ q))
+
+  line-is : x ≡ record { parsed = lineOf (take (findOf text at newline - at) (drop at text)); next = findOf text at newline + 1 }
+  line-is = e ∙ sym (line-there text at (findOf text at newline) refl line-ended _ refl)
+
+  pub line-sound : Sound y
+  line-sound = sound (take (findOf text at newline - at) (drop at text)) y (sym (ap (λ (z : LineAt). z .parsed) line-is) ∙ q)
+
+  pub newlines-left : newlines (drop at text) ≡ 1 + newlines (drop (x .next) text)
+  newlines-left =
+      rw line-is
+      (omega (
+        arith,
+        split-count newline (drop at text),
+        split-count newline (drop (findOf text at newline + 1) text),
+        ap length (pieces-more text at newline (findOf text at newline) (omega arith) refl line-ended),
+      ))
 
 pub reading-whole : (text : List ℕ) → readingOf text ≡ readingFrom 1 (drop 0 text)
 unfolding readingOf

@@ -1,0 +1,255 @@
+-- The two passes over a list, turn by turn: what is known at a place of the text, and what the line there adds.
+use mathlib.Core.Bool.{Bool, true, false, cond}
+use mathlib.Core.List.{List, [], _∷_, _++_}
+use mathlib.Core.Path.{_≡_, refl, sym, ap, _∙_, subst}
+use Prim.Native.Nat.{ℕ, zero, suc, _+_, _*_, _-_, _^_, _≤_, _<_}
+use native.Mathlib.Nat.{add-assoc, zero-add, add-zero, mul-le-mul}
+use native.Mathlib.Omega.{arith}
+use lib.Dec.{eqb, ltb}
+use lib.ListN.{length, drop, length-append}
+use lib.Seq.{sets}
+use Rattle.registers.specs.declared.Registers.{Registers}
+use Rattle.lists.specs.declared.Line.{Line}
+use Rattle.lists.specs.declared.Line.the-variants.{Fill, Set}
+use Rattle.lists.specs.declared.LineAt.{LineAt}
+use Rattle.lists.specs.declared.Parsed.the-variants.{Good, Bad}
+use Rattle.lists.specs.Lists.{Reading, faulty, lines, alsoLine, readingFrom, readingOf, newlines, lineAt}
+use Rattle.lists.specs.Spelling.{Sound, AllSound}
+use Rattle.lists.proofs.Positions.{reading-bad, reading-good, reading-next, reading-end, reading-whole, line-sound, newlines-left}
+use Rattle.compiler.specs.declared.measure.Measured.{Measured}
+use Rattle.compiler.specs.declared.measure.Measured.the-variants.{Fault, Whole}
+use Rattle.compiler.specs.Compile.{measureFrom, measureOf, linesOf}
+use Rattle.compiler.specs.Plain.{setTo, registersAfter}
+use Rattle.compiler.specs.Stream.{fill, setCommands, lineEvents, stream, byteEvents}
+use Rattle.compiler.specs.Writes.{Wrote, Tracked, fillCount}
+use Rattle.compiler.proofs.Clocks.{bytes-append, fill-length}
+use Rattle.compiler.proofs.Emits.{wrote-then, wrote-none}
+use Rattle.compiler.proofs.Fits.{line-fits}
+use Rattle.compiler.proofs.Lines.{set-room}
+use Rattle.compiler.proofs.Settings.{set-length, set-length-bound}
+use Rattle.compiler.proofs.Tracked.{after-tracked}
+
+-- ---- no line takes more events than a fill of the whole glass by columns
+
+pub bytes-limit : (es : List ℕ) → byteEvents es ≤ length es
+bytes-limit [] = omega arith
+bytes-limit (e ∷ es) = go (ltb e 256) (bytes-limit es)
+  where
+    go : (t : Bool) → byteEvents es ≤ length es → cond t 1 0 + byteEvents es ≤ suc (length es)
+    go true h = omega arith
+    go false h = omega arith
+
+fill-limit : (q : Registers) (c0 c1 b0 b1 : ℕ) → c1 ≤ 100 → b1 ≤ 16 → fillCount 10 q c0 c1 b0 b1 ≤ 2727
+fill-limit q c0 c1 b0 b1 hc hb = go (eqb (q .v) 1)
+  where
+    columns : c1 - c0 + 1 ≤ 101
+    columns = omega arith
+
+    banks : b1 - b0 + 1 ≤ 17
+    banks = omega arith
+
+    down-limit : (c1 - c0 + 1) * (10 + (b1 - b0 + 1)) ≤ 101 * 27
+    down-limit = let each : 10 + (b1 - b0 + 1) ≤ 27 = omega arith in mul-le-mul columns each
+
+    across-limit : (b1 - b0 + 1) * (10 + (c1 - c0 + 1)) ≤ 17 * 111
+    across-limit = let each : 10 + (c1 - c0 + 1) ≤ 111 = omega arith in mul-le-mul banks each
+
+    go : (t : Bool) → cond t ((c1 - c0 + 1) * (10 + (b1 - b0 + 1))) ((b1 - b0 + 1) * (10 + (c1 - c0 + 1))) ≤ 2727
+    go true = down-limit
+    go false = omega (arith, across-limit)
+
+pub line-limit : (pins : ℕ) (l : Line) (q : Registers) → Sound l → length (lineEvents pins l q) ≤ 2727
+unfolding Sound lineEvents
+line-limit pins (Fill c0 c1 b0 b1 n) q s = omega (arith, fill-length pins q c0 c1 b0 b1 n, fill-limit q c0 c1 b0 b1 (s .last-column) (s .last-bank))
+line-limit pins (Set f n) q s =
+    omega (arith, set-room pins (Set f n) q f n (setTo f n q) refl refl, set-length f (setTo f n q), set-length-bound f)
+
+pub stream-limit : (pins : ℕ) (ls : List Line) (q : Registers) → AllSound ls → length (stream pins ls q) ≤ length ls * 2727
+unfolding stream AllSound
+stream-limit pins [] q s = omega arith
+stream-limit pins (l ∷ ls) q s =
+    omega (
+      arith,
+      length-append (lineEvents pins l q) (stream pins ls (registersAfter l q)),
+      line-limit pins l q (s .0),
+      stream-limit pins ls (registersAfter l q) (s .1),
+    )
+
+-- ---- measuring
+
+measure-none : (pins : ℕ) (q : Registers) (r : Reading) → measureFrom pins q 0 0 r ≡ measureOf pins q r
+measure-none pins q (faulty k i) = refl
+measure-none pins q (lines ls) =
+    ap (λ (n : ℕ). Whole n (0 + byteEvents (stream pins ls q))) (zero-add (length (stream pins ls q)))
+    ∙ ap (λ (n : ℕ). Whole (length (stream pins ls q)) n) (zero-add (byteEvents (stream pins ls q)))
+
+measure-line :
+    (pins : ℕ) (q : Registers) (n b : ℕ) (l : Line) (r : Reading)
+    → measureFrom pins q n b (alsoLine l r)
+    ≡ measureFrom pins (registersAfter l q) (n + length (lineEvents pins l q)) (b + byteEvents (lineEvents pins l q)) r
+unfolding stream
+measure-line pins q n b l (faulty k i) = refl
+measure-line pins q n b l (lines ls) =
+    let es = lineEvents pins l q in
+    let rest = stream pins ls (registersAfter l q) in
+    let hn : n + length (es ++ rest) ≡ n + length es + length rest = omega (arith, length-append es rest) in
+    let hb : b + byteEvents (es ++ rest) ≡ b + byteEvents es + byteEvents rest = omega (arith, bytes-append es rest) in
+    ap (λ (x : ℕ). Whole x (b + byteEvents (es ++ rest))) hn ∙ ap (λ (x : ℕ). Whole (n + length es + length rest) x) hb
+
+-- at a place of the text, before line `number`, with n events and b bytes so far
+pub record Measuring (text : List ℕ) (pins : ℕ) (q₀ : Registers) (at number : ℕ) (q : Registers) (n b : ℕ) : Type 0 where
+  pub place : at ≤ length text
+  pub lines-left : number + newlines (drop at text) ≤ 4097
+  pub pins-fit : pins ≤ 3
+  pub tracked : Tracked q
+  pub limit : n + 2727 ≤ number * 2727
+  pub fewer : b ≤ n
+  pub same : measureFrom pins q n b (readingFrom number (drop at text)) ≡ measureOf pins q₀ (readingOf text)
+
+pub measuring-start : (text : List ℕ) (pins : ℕ) (q : Registers) → newlines text ≤ 4096 → Tracked q → pins ≤ 3 → Measuring text pins q 0 1 q 0 0
+measuring-start text pins q few tracked hp =
+    record {
+      place = omega arith;
+      lines-left = omega arith;
+      pins-fit = hp;
+      tracked = tracked;
+      limit = omega arith;
+      fewer = omega arith;
+      same = measure-none pins q (readingFrom 1 (drop 0 text)) ∙ ap (measureOf pins q) (sym (reading-whole text));
+    }
+
+module _ {text : List ℕ} {pins : ℕ} {q₀ : Registers} {at number : ℕ} {q : Registers} {n b : ℕ} (m : Measuring text pins q₀ at number q n b) where
+  pub measuring-end : length text ≤ at → Whole n b ≡ measureOf pins q₀ (readingOf text)
+  unfolding stream
+  measuring-end h =
+      ap (λ (x : ℕ). Whole x b) (sym (add-zero n))
+      ∙ ap (λ (x : ℕ). Whole (n + 0) x) (sym (add-zero b))
+      ∙ sym (ap (measureFrom pins q n b) (reading-end text at number h))
+      ∙ m .same
+
+  -- the line at that place
+  module _ (l : at < length text) (x : LineAt) (e : x ≡ lineAt text at) where
+    pub measuring-fault : (k : ℕ) → x .parsed ≡ Bad k → Fault k number ≡ measureOf pins q₀ (readingOf text)
+    measuring-fault k h = sym (ap (measureFrom pins q n b) (reading-bad text at number l x e k h)) ∙ m .same
+
+    module _ (y : Line) (h : x .parsed ≡ Good y) where
+      -- the sums stay small, whatever the list is
+      pub measuring-room : (ne : ℕ) → ne ≡ length (lineEvents pins y q) → n + ne < 2 ^ 32
+      measuring-room ne he = omega (arith, he, m .lines-left, m .limit, line-limit pins y q (line-sound text at l x e y h))
+
+      pub measuring-byte-room : (nb : ℕ) → nb ≡ byteEvents (lineEvents pins y q) → b + nb < 2 ^ 32
+      measuring-byte-room nb hb =
+          omega (arith, hb, m .fewer, measuring-room (length (lineEvents pins y q)) refl, bytes-limit (lineEvents pins y q))
+
+      pub measuring-turn :
+          (ne nb : ℕ) (q′ : Registers)
+          → ne ≡ length (lineEvents pins y q)
+          → nb ≡ byteEvents (lineEvents pins y q)
+          → q′ ≡ registersAfter y q
+          → Measuring text pins q₀ (x .next) (number + 1) q′ (n + ne) (b + nb)
+      measuring-turn ne nb q′ he hb hq =
+          let ok = line-sound text at l x e y h in
+          let es = lineEvents pins y q in
+          record {
+            place = reading-next text at number l x e .1;
+            lines-left = omega (arith, m .lines-left, newlines-left text at l x e y h);
+            pins-fit = m .pins-fit;
+            tracked = subst Tracked (sym hq) (after-tracked y q (line-fits y ok) (m .tracked));
+            limit = omega (arith, m .limit, he, line-limit pins y q ok);
+            fewer = omega (arith, m .fewer, he, hb, bytes-limit es);
+            same =
+                ap (λ (z : Registers). measureFrom pins z (n + ne) (b + nb) (readingFrom (number + 1) (drop (x .next) text))) hq
+                ∙ ap (λ (z : ℕ). measureFrom pins (registersAfter y q) (n + z) (b + nb) (readingFrom (number + 1) (drop (x .next) text))) he
+                ∙ ap (λ (z : ℕ). measureFrom pins (registersAfter y q) (n + length es) (b + z) (readingFrom (number + 1) (drop (x .next) text))) hb
+                ∙ sym (measure-line pins q n b y (readingFrom (number + 1) (drop (x .next) text)))
+                ∙ sym (ap (measureFrom pins q n b) (reading-good text at number l x e y h))
+                ∙ m .same;
+          }
+
+-- ---- writing
+
+not-lines : (k i : ℕ) (ls : List Line) → faulty k i ≡ lines ls → ⊥
+not-lines k i ls e = let z : _≡_ {A = ℕ} 0 1 = cc in omega arith
+
+same-lines : (ks ls : List Line) → lines ks ≡ lines ls → ks ≡ ls
+same-lines ks ls e = cc
+
+-- the lines after the first
+record Behind (y : Line) (r : Reading) (ls : List Line) : Type 0 where
+  pub rest : List Line
+  pub reads : r ≡ lines rest
+  pub whole : ls ≡ y ∷ rest
+
+behind : (y : Line) (r : Reading) (ls : List Line) → alsoLine y r ≡ lines ls → Behind y r ls
+behind y (faulty k i) ls e = absurd (not-lines k i ls e)
+behind y (lines rest) ls e = record { rest = rest; reads = refl; whole = sym (same-lines (y ∷ rest) ls e) }
+
+-- at a place of the text, with the output written up to `here`
+pub record Writing (text : List ℕ) (pins : ℕ) (q₀ : Registers) (out₀ : List ℕ) (at here : ℕ) (q : Registers) (out : List ℕ) : Type 0 where
+  pub place : at ≤ length text
+  pub number : ℕ
+  pub left : List Line
+  pub reads : readingFrom number (drop at text) ≡ lines left
+  pub same-length : length out ≡ length out₀
+  pub room : here + length (stream pins left q) ≤ length out
+  pub rest : (l : List ℕ) (j : ℕ) → Wrote out here (stream pins left q) l j → Wrote out₀ 0 (stream pins (linesOf (readingOf text)) q₀) l j
+
+pub writing-start :
+    (text : List ℕ) (pins : ℕ) (q : Registers) (out : List ℕ)
+    → readingOf text ≡ lines (linesOf (readingOf text))
+    → length (stream pins (linesOf (readingOf text)) q) ≤ length out
+    → Writing text pins q out 0 0 q out
+writing-start text pins q out good room =
+    record {
+      place = omega arith;
+      number = 1;
+      left = linesOf (readingOf text);
+      reads = sym (reading-whole text) ∙ good;
+      same-length = refl;
+      room = omega arith;
+      rest = λ l j w. w;
+    }
+
+module _ {text : List ℕ} {pins : ℕ} {q₀ : Registers} {out₀ : List ℕ} {at here : ℕ} {q : Registers} {out : List ℕ} (m : Writing text pins q₀ out₀ at here q out) where
+  pub writing-end : length text ≤ at → out ≡ sets out₀ 0 (stream pins (linesOf (readingOf text)) q₀)
+  unfolding stream
+  writing-end h =
+      let none : m .left ≡ [] = same-lines (m .left) [] (sym (m .reads) ∙ reading-end text at (m .number) h) in
+      m .rest out here (subst (λ (ls : List Line). Wrote out here (stream pins ls q) out here) (sym none) (wrote-none out here)) .list
+
+  -- the line at that place
+  module _ (l : at < length text) (x : LineAt) (e : x ≡ lineAt text at) where
+    pub writing-no-fault : (k : ℕ) → x .parsed ≡ Bad k → ⊥
+    writing-no-fault k h = not-lines k (m .number) (m .left) (sym (reading-bad text at (m .number) l x e k h) ∙ m .reads)
+
+    module _ (y : Line) (h : x .parsed ≡ Good y) where
+      rest-of : Behind y (readingFrom (m .number + 1) (drop (x .next) text)) (m .left)
+      rest-of = behind y _ (m .left) (sym (reading-good text at (m .number) l x e y h) ∙ m .reads)
+
+      events-are : stream pins (m .left) q ≡ lineEvents pins y q ++ stream pins (rest-of .rest) (registersAfter y q)
+      unfolding stream
+      events-are = ap (λ (ls : List Line). stream pins ls q) (rest-of .whole)
+
+      events-count : length (stream pins (m .left) q) ≡ length (lineEvents pins y q) + length (stream pins (rest-of .rest) (registersAfter y q))
+      events-count = ap length events-are ∙ length-append (lineEvents pins y q) (stream pins (rest-of .rest) (registersAfter y q))
+
+      pub writing-room : Sound y × (here + length (lineEvents pins y q) ≤ length out)
+      writing-room = (line-sound text at l x e y h, omega (arith, m .room, events-count))
+
+      pub writing-turn :
+          (out′ : List ℕ) (here′ : ℕ) (q′ : Registers)
+          → length out′ ≡ length out
+          → Wrote out here (lineEvents pins y q) out′ here′
+          → q′ ≡ registersAfter y q
+          → Writing text pins q₀ out₀ (x .next) here′ q′ out′
+      writing-turn out′ here′ q′ same wrote hq =
+          subst (λ (z : Registers). Writing text pins q₀ out₀ (x .next) here′ z out′) (sym hq)
+          (record {
+            place = reading-next text at (m .number) l x e .1;
+            number = m .number + 1;
+            left = rest-of .rest;
+            reads = rest-of .reads;
+            same-length = same ∙ m .same-length;
+            room = omega (arith, m .room, events-count, wrote .next, same);
+            rest = λ k j w. m .rest k j (subst (λ (es : List ℕ). Wrote out here es k j) (sym events-are) (wrote-then wrote w));
+          })
