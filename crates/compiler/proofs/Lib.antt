@@ -4,6 +4,7 @@ pub mod Emits
 pub mod Fill
 pub mod Fills
 pub mod Fits
+pub mod Laws
 pub mod Lines
 pub mod Passes
 pub mod Set

@@ -17,8 +17,8 @@ use Rattle.chip.specs.Promised.{Fit}
 use Rattle.lists.specs.declared.Line.{Line}
 use Rattle.lists.specs.Lists.{Reading, faulty, lines, readingOf, newlines}
 use Rattle.lists.proofs.Readings.{Accepted, reading-accepted}
-use Rattle.compiler.specs.declared.Compiled.{Compiled}
-use Rattle.compiler.specs.declared.Compiled.the-variants.{Done, Refused, BadLine, Short}
+use Rattle.compiler.specs.declared.answer.Compiled.{Compiled}
+use Rattle.compiler.specs.declared.answer.Compiled.the-variants.{Done, Refused, BadLine, Short}
 use Rattle.compiler.specs.declared.measure.Measured.{Measured}
 use Rattle.compiler.specs.declared.measure.Measured.the-variants.{Fault, Whole}
 use Rattle.compiler.specs.Compile.{Result, result, intoOutput, fromReading, compileOf, measureOf, linesOf}

@@ -10,8 +10,9 @@ use Rattle.registers.specs.declared.Registers.{Registers}
 use Rattle.registers.specs.Record.{allowed, blank}
 use Rattle.lists.specs.declared.Line.{Line}
 use Rattle.lists.specs.Lists.{Reading, faulty, lines, readingOf, newlines}
-use Rattle.compiler.specs.declared.Compiled.{Compiled}
-use Rattle.compiler.specs.declared.Compiled.the-variants.{Done, Refused, BadLine, Short}
+use Rattle.compiler.specs.declared.answer.Compiled.{Compiled}
+use Rattle.compiler.specs.declared.answer.Compiled.the-variants.{Done, Refused, BadLine, Short}
+use Rattle.compiler.specs.declared.answer.Numbers.{Numbers}
 use Rattle.compiler.specs.declared.measure.Measured.{Measured}
 use Rattle.compiler.specs.declared.measure.Measured.the-variants.{Fault, Whole}
 use Rattle.compiler.specs.Stream.{stream, byteEvents, clocksOf}
@@ -41,16 +42,10 @@ compileOf c text out =
 
 -- ---- document 01's numbers
 
--- what a C host is told: the result, and the three numbers, of which those that a result does not name are 0
-pub record Numbers : Type 0 where
-  pub number : ℕ
-  pub length : ℕ
-  pub clocks : ℕ
-  pub line : ℕ
-
 abbrev pub numbers : ℕ → ℕ → ℕ → ℕ → Numbers
 numbers n l c i = record { number = n; length = l; clocks = c; line = i }
 
+-- those that an answer does not name are 0
 abbrev pub numbersOf : Compiled → Numbers
 numbersOf (Done n k) = numbers 0 n k 0
 numbersOf (Refused k) = numbers k 0 0 0

@@ -10,8 +10,8 @@ use Rattle.chip.specs.Plays.{Good, played}
 use Rattle.chip.specs.Promised.{Fit, runOf, outcome}
 use Rattle.lists.specs.declared.Line.{Line}
 use Rattle.lists.specs.Lists.{lines, readingOf}
-use Rattle.compiler.specs.declared.Compiled.{Compiled}
-use Rattle.compiler.specs.declared.Compiled.the-variants.{Done}
+use Rattle.compiler.specs.declared.answer.Compiled.{Compiled}
+use Rattle.compiler.specs.declared.answer.Compiled.the-variants.{Done}
 use Rattle.compiler.specs.Plain.{pictureOf, plain}
 
 -- the events es of the lines ls, played to the chip of s one after the other

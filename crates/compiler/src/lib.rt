@@ -3,24 +3,18 @@ ghost use mathlib.Core.Path.{_≡_};
 ghost use Rattle.registers.specs.Record.{blank};
 ghost use Rattle.compiler.specs.Compile.{result, compileOf};
 ghost use Rattle.compiler.specs.Demand3.{Promise};
+use answer::Compiled;
 use measure::Measured;
 use registers::Chip;
 use registers::Registers;
 
+pub mod answer;
 mod emit;
 mod line;
 mod measure;
 mod message;
 mod setting;
 mod write;
-
-// `clocks` are the bus clocks that the events take, nine for each byte.
-pub enum Compiled {
-    Done { length: usize, clocks: usize },
-    Refused(u8),
-    BadLine { number: u8, line: usize },
-    Short { needed: usize },
-}
 
 const NEWLINE: u8 = 10;
 

@@ -1,6 +1,7 @@
 // The calls of a host in C (include/pcf8820.h). The host holds a chip's record as 35 words; each call answers for every buffer it may be lent.
 ghost use mathlib.Core.Path.{_≡_};
 ghost use Rattle.host.specs.Calls.{noRecordFor, reset, resetCall, stepped, stepCall, ran, runCall};
+ghost use Rattle.host.specs.Compiling.{compiled, compileCall};
 ghost use Rattle.host.specs.Views.{glassCall, placeCall};
 use registers::Chip;
 
@@ -97,4 +98,30 @@ pub extern "C" fn pcf8820_place(record: &[u64], row: u64, column: u64) -> u64
     }
     let place = glass::place(words::chip(record), row as usize, column as usize);
     place.number()
+}
+
+// A drawing list to bus events.
+#[no_mangle]
+pub extern "C" fn pcf8820_compile(
+    record: &[u64],
+    text: &[u8],
+    out: &mut [u16],
+    length: &mut u64,
+    clocks: &mut u64,
+    line: &mut u64,
+) -> u64
+    ensures { λ r. ⌜ compiled r (now (length .exit)) (now (clocks .exit)) (now (line .exit)) (now (out .exit)) ≡ compileCall (now («record» .entry)) (now (text .entry)) (now (out .entry)) ⌝ }
+{
+    if !words::stand_for_a_chip(record) {
+        *length = 0;
+        *clocks = 0;
+        *line = 0;
+        return 2;
+    }
+    let answer = compiler::compile(words::chip(record), text, out);
+    let told = answer.numbers();
+    *length = told.length;
+    *clocks = told.clocks;
+    *line = told.line;
+    told.number
 }
