@@ -1,16 +1,20 @@
 -- Document 01, "Worked and marked": the marked cases, one table. Each is a test of the definitions that antt computes.
-use mathlib.Core.Bool.{Bool, true, false, _&&_}
-use mathlib.Core.List.{List, [], _∷_}
+use mathlib.Core.Bool.{Bool, true, false, cond, _&&_}
+use mathlib.Core.List.{List, [], _∷_, _++_}
 use Prim.Native.Nat.{ℕ, suc, _+_, _*_}
 use lib.Dec.{leb, eqb}
-use lib.ListN.{getD, set, replicate}
+use Prim.Native.String.{String}
+use lib.ListN.{getD, length, set, replicate}
 use Rattle.registers.specs.declared.Registers.{Registers}
 use Rattle.registers.specs.declared.Chip.{Chip}
 use Rattle.registers.specs.declared.Phase.the-variants.{EndlessBytes}
-use Rattle.registers.specs.Places.{DO, PD, «V», D, E, MY, PS, X, Y, DP, GS0, GS1, GS2, GS3, DOF}
+use Rattle.registers.specs.Places.{DO, PD, «V», D, E, MX, MY, PS, X, Y, DP, GS0, GS1, GS2, GS3, DOF}
 use Rattle.registers.specs.Record.{values, put, resetRegisters, resetChip, inPhase, withRegisters}
 use Rattle.registers.specs.State.{State, state, places}
 use Rattle.engine.specs.Step.{stepOf}
+use Rattle.text.specs.Text.{bytes, sameBytes}
+use Rattle.compiler.specs.declared.answer.Numbers.{Numbers}
+use Rattle.compiler.specs.Compile.{Result, compileOf, numbersOf}
 use Rattle.glass.specs.Pixel.{Pixel, dark, undriven, uses, placeAt, pixelOf}
 use Rattle.glass.specs.Answer.{shownNumber}
 use Rattle.glass.specs.Glass.{ramRowOf, glassOf}
@@ -35,6 +39,10 @@ pub data Case : Type 0 where
   greys : List Setting → ℕ → List ℕ → Case
   -- after reset, with these registers set, these rows of the glass are driven, and those are not
   driven : List Setting → List ℕ → List ℕ → Case
+  -- after reset, with these registers set, this list compiles to these events, which take so many clocks
+  streamed : List Setting → String → List ℕ → ℕ → Case
+  -- after reset, this list's first line gives this number, 0 where it is accepted
+  judged : String → ℕ → Case
 
 -- ---- what a case says
 
@@ -86,12 +94,30 @@ abbrev pub noneDriven : Chip → List ℕ → Bool
 noneDriven c [] = true
 noneDriven c (row ∷ rows) = eqb (shows c row) 257 && noneDriven c rows
 
+-- a list compiled into an output of so many words, all 999
+abbrev pub compiled : List Setting → String → ℕ → Result
+compiled before text n = compileOf (withRegisters (resetChip 0) (withSettings before resetRegisters)) (bytes text) (replicate n 999)
+
+-- the events, and after them the output as it was
+abbrev pub isStream : Result → List ℕ → ℕ → Bool
+isStream r es clocks =
+    eqb (numbersOf (r .answer) .number) 0
+    && eqb (numbersOf (r .answer) .length) (length es)
+    && eqb (numbersOf (r .answer) .clocks) clocks
+    && sameBytes (r .out) (es ++ 999 ∷ [])
+
+-- the number, for line 1 where it is not 0
+abbrev pub isJudged : Numbers → ℕ → Bool
+isJudged told k = eqb (told .number) k && eqb (told .line) (cond (eqb k 0) 0 1)
+
 unfoldable pub holds : Case → Bool
 holds (counter before after) = agrees after (stepOf 0 (prepared before true) .state .chip .registers)
 holds (command before b after) = agrees after (stepOf b (prepared before false) .state .chip .registers)
 holds (stored before b k n) = eqb (getD (stepOf b (prepared before true) .state .memory) k 0) n
 holds (greys before row gs) = useThese (viewed before) row gs
 holds (driven before rows others) = allDriven (viewed before) rows && noneDriven (viewed before) others
+holds (streamed before text es clocks) = isStream (compiled before text (length es + 1)) es clocks
+holds (judged text k) = isJudged (numbersOf (compiled [] text 100 .answer)) k
 
 unfoldable pub allHold : List Case → Bool
 allHold [] = true
@@ -99,10 +125,22 @@ allHold (c ∷ cs) = holds c && allHold cs
 
 -- ---- the table
 
+-- START, address, page return, the X command, Y 2, 40h, the data, STOP
+abbrev pub putEvents : ℕ → ℕ → List ℕ
+putEvents x byte = 256 ∷ 0x78 ∷ 0x80 ∷ 0x01 ∷ 0x80 ∷ x ∷ 0x80 ∷ 0x42 ∷ 0x40 ∷ byte ∷ 257 ∷ []
+
 unfoldable pub marked : List Case
 marked =
+    -- put 5 2 167: 11 events, 81 clocks
+    streamed [] "put\t5\t2\t167\n" (putEvents 0x85 0xA7) 81
+    -- the same with MX = 1, and with DO = 1
+    ∷ streamed (MX is 1 ∷ []) "put\t5\t2\t167\n" (putEvents 0xDF 0xA7) 81
+    ∷ streamed (DO is 1 ∷ []) "put\t5\t2\t167\n" (putEvents 0x85 0xE5) 81
+    -- bank 16 takes six bits
+    ∷ judged "put\t0\t16\t64\n" 7
+    ∷ judged "put\t0\t16\t63\n" 0
     -- counter V = 0, X 100, Y 3: 0, 4
-    counter («V» is 0 ∷ X is 100 ∷ Y is 3 ∷ []) (X is 0 ∷ Y is 4 ∷ [])
+    ∷ counter («V» is 0 ∷ X is 100 ∷ Y is 3 ∷ []) (X is 0 ∷ Y is 4 ∷ [])
     -- V = 1, X 7, Y 16: 8, 0
     ∷ counter («V» is 1 ∷ X is 7 ∷ Y is 16 ∷ []) (X is 8 ∷ Y is 0 ∷ [])
     -- X 100, Y 16: 0, 0 for each V
