@@ -1,0 +1,100 @@
+-- A capture byte by byte: what is kept of the present line, and what a newline does. proofs/Laws.antt holds it against `replayOf`.
+use mathlib.Core.Bool.{Bool, true, false, cond, _&&_}
+use mathlib.Core.List.{List, [], _∷_}
+use Prim.Native.Nat.{ℕ, _+_, _*_, _-_}
+use lib.Dec.{eqb, leb, ltb}
+use lib.ListN.{getD}
+use Rattle.registers.specs.declared.Chip.{Chip}
+use Rattle.registers.specs.Record.{resetChip}
+use Rattle.registers.specs.State.{State, state}
+use Rattle.chip.specs.Promised.{Answer, Refused, Nothing, Acknowledged, NotAcknowledged, Read, stepOf}
+use Rattle.text.specs.Decimal.{isDigit, worth}
+use Rattle.capture.specs.declared.Line.{Line}
+use Rattle.capture.specs.declared.Line.the-variants.{First, Pins, Empty, Number, BadFirst, Bad}
+use Rattle.capture.specs.declared.Capture.{Capture}
+use Rattle.capture.specs.declared.End.{End}
+use Rattle.capture.specs.declared.End.the-variants as ends
+use Rattle.capture.specs.Reading.{newline, word}
+use Rattle.capture.specs.Replay.{Replay, refusedAt, replayed, started}
+
+-- the present line, and the chip with the two lent memories
+pub record Fed : Type 0 where
+  pub line : Line
+  pub state : State
+
+abbrev pub fed : Capture → List ℕ → List ℕ → Fed
+fed c m w = record { line = c .line; state = Rattle.registers.specs.State.state (c .chip) m w }
+
+abbrev pub fedAs : Line → State → Fed
+fedAs l s = record { line = l; state = s }
+
+abbrev pub startOf : Capture
+startOf = record { chip = resetChip 0; line = First 0 }
+
+-- ---- a byte that is no newline
+
+abbrev pub onWord : ℕ → ℕ → Line
+onWord k b =
+    cond (ltb k 5) (cond (eqb b (getD word k 0)) (First (k + 1)) BadFirst)
+    (cond (leb 48 b && leb b 51) (Pins (worth b)) BadFirst)
+
+abbrev pub onDigit : ℕ → Line
+onDigit b = cond (isDigit b) (Number (worth b)) Bad
+
+-- no digit follows a 0, and none a number of three digits
+abbrev pub onNumber : ℕ → ℕ → Line
+onNumber n b = cond (ltb 0 n && ltb n 100 && isDigit b) (Number (n * 10 + worth b)) Bad
+
+unfoldable pub joinedTo : Line → ℕ → Line
+joinedTo (First k) b = onWord k b
+joinedTo (Pins p) b = BadFirst
+joinedTo Empty b = onDigit b
+joinedTo (Number n) b = onNumber n b
+joinedTo BadFirst b = BadFirst
+joinedTo Bad b = Bad
+
+-- ---- a newline
+
+abbrev pub afterAnswer : Answer → Line
+afterAnswer (Refused n) = Bad
+afterAnswer Nothing = Empty
+afterAnswer Acknowledged = Empty
+afterAnswer NotAcknowledged = Empty
+afterAnswer (Read b) = Empty
+
+abbrev pub playedOn : ℕ → State → Fed
+playedOn e s = fedAs (afterAnswer (stepOf e s .answer)) (stepOf e s .state)
+
+unfoldable pub endedLine : Line → State → Fed
+endedLine (First k) s = fedAs BadFirst s
+endedLine (Pins p) s = fedAs Empty (started p (s .memory) (s .writers))
+endedLine Empty s = fedAs Bad s
+endedLine (Number e) s = playedOn e s
+endedLine BadFirst s = fedAs BadFirst s
+endedLine Bad s = fedAs Bad s
+
+-- ---- bytes, and the end
+
+abbrev pub fedByte : ℕ → Fed → Fed
+fedByte b f = cond (eqb b newline) (endedLine (f .line) (f .state)) (fedAs (joinedTo (f .line) b) (f .state))
+
+unfoldable pub feedOf : List ℕ → Fed → Fed
+feedOf [] f = f
+feedOf (b ∷ bs) f = feedOf bs (fedByte b f)
+
+abbrev pub endOf : Line → Chip → End
+endOf (First k) c = ends.BadFirst
+endOf (Pins p) c = ends.BadFirst
+endOf Empty c = ends.Whole c
+endOf (Number n) c = ends.Bad c
+endOf BadFirst c = ends.BadFirst
+endOf Bad c = ends.Bad c
+
+unfoldable pub finishOf : Capture → End
+finishOf c = endOf (c .line) (c .chip)
+
+-- what an end says, with the memories as they are then. The line of a bad event is count + 2, whatever the width of the count
+unfoldable pub meaning : End → List ℕ → List ℕ → Replay
+meaning ends.BadFirst m w = refusedAt 1 (started 0 m w)
+meaning (ends.Bad c) m w = refusedAt (c .count + 2) (state c m w)
+meaning (ends.Whole c) m w = replayed (state c m w)

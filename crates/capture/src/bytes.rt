@@ -1,0 +1,66 @@
+// The bytes of a line, one after the other.
+ghost use mathlib.Core.Path.{_≡_};
+ghost use Rattle.text.specs.Decimal.{isDigit};
+ghost use Rattle.capture.specs.Feeding.{onWord, onDigit, onNumber, joinedTo};
+use crate::Line;
+
+pub const NEWLINE: u8 = 10;
+
+// What the first line begins with.
+const WORD: [u8; 5] = *b"pins\t";
+
+fn is_digit(byte: u8) -> bool
+    ensures { λ r. ⌜ r ≡ isDigit byte ⌝ }
+{
+    (48 <= byte) & (byte <= 57)
+}
+
+// The first line with k bytes: the next of the word, and then the pins.
+fn on_word(k: u8, byte: u8) -> Line
+    ensures { λ r. ⌜ r ≡ onWord k byte ⌝ }
+{
+    if k < 5 {
+        if byte == WORD[k as usize] {
+            return Line::First(k + 1);
+        }
+        return Line::BadFirst;
+    }
+    if (48 <= byte) & (byte <= 51) {
+        return Line::Pins(byte - 48);
+    }
+    Line::BadFirst
+}
+
+// The first digit of an event.
+fn on_digit(byte: u8) -> Line
+    ensures { λ r. ⌜ r ≡ onDigit byte ⌝ }
+{
+    if is_digit(byte) {
+        return Line::Number((byte as u16) - 48);
+    }
+    Line::Bad
+}
+
+// One digit more. After a 0 there is none, and after a number of three digits there is none.
+fn on_number(n: u16, byte: u8) -> Line
+    ensures { λ r. ⌜ r ≡ onNumber n byte ⌝ }
+{
+    if (0 < n) & (n < 100) & is_digit(byte) {
+        return Line::Number(n * 10 + ((byte as u16) - 48));
+    }
+    Line::Bad
+}
+
+// The line with one byte more, which is no newline.
+pub fn joined(line: Line, byte: u8) -> Line
+    ensures { λ r. ⌜ r ≡ joinedTo line byte ⌝ }
+{
+    match line {
+        Line::First(k) => on_word(k, byte),
+        Line::Pins(_) => Line::BadFirst,
+        Line::Empty => on_digit(byte),
+        Line::Number(n) => on_number(n, byte),
+        Line::BadFirst => Line::BadFirst,
+        Line::Bad => Line::Bad,
+    }
+}
