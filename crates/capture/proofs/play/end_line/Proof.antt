@@ -1,0 +1,81 @@
+use Rattle.capture.proofs.Lines.{ended-told}
+use mathlib.Core.Path.{refl}
+use Rattle.capture.specs.Feeding.{endedLine}
+use borrow.Author.Needs.{needs}
+use Rattle.capture.proofs.play.end_line.Statement.{statement}
+use Rattle.capture.proofs.play.end_line.Tie as tie
+
+enum-told : tie.Need-enum-told
+enum-told c = search needs
+
+enum-known-line : tie.Need-enum-known-line
+enum-known-line c = search needs
+
+reset-requires : tie.Need-reset-requires
+reset-requires c κs = search needs
+
+enum-told-2 : tie.Need-enum-told-2
+enum-told-2 c = search needs
+
+enum-known-line-2 : tie.Need-enum-known-line-2
+enum-known-line-2 c = search needs
+
+play-requires : tie.Need-play-requires
+play-requires c κs = search needs
+
+enum-told-3 : tie.Need-enum-told-3
+enum-told-3 c = search needs
+
+enum-told-4 : tie.Need-enum-told-4
+enum-told-4 c = search needs
+
+returns : tie.Need-returns
+unfolding endedLine
+returns c = ended-told _ _ (c .enum-told .given .1) _ _ refl
+
+returns-2 : tie.Need-returns-2
+unfolding endedLine
+returns-2 c = ended-told _ _ (c .before .before .line .given .1) _ _ (simp (c .reset .ensures))
+
+returns-3 : tie.Need-returns-3
+unfolding endedLine
+returns-3 c = ended-told _ _ (c .enum-told2 .given .1) _ _ refl
+
+same-length : tie.Need-same-length
+same-length c = search needs
+
+same-length-2 : tie.Need-same-length-2
+same-length-2 c = search needs
+
+returns-4 : tie.Need-returns-4
+unfolding endedLine
+returns-4 c = ended-told _ _ (c .before .before .before .before .before .before .before .before .line2 .given .1) _ _ (c .before .before .before .before .play .ensures)
+
+returns-5 : tie.Need-returns-5
+unfolding endedLine
+returns-5 c = ended-told _ _ (c .enum-told3 .given .1) _ _ refl
+
+returns-6 : tie.Need-returns-6
+unfolding endedLine
+returns-6 c = ended-told _ _ (c .enum-told4 .given .1) _ _ refl
+
+pub end-line-spec : {M : Type 1} → statement M
+end-line-spec =
+    tie.close
+    (tie.spec
+    enum-told
+    enum-known-line
+    reset-requires
+    enum-told-2
+    enum-known-line-2
+    play-requires
+    enum-told-3
+    enum-told-4
+    returns
+    returns-2
+    returns-3
+    same-length
+    same-length-2
+    returns-4
+    returns-5
+    returns-6)
