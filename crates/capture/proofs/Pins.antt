@@ -1,0 +1,125 @@
+-- The first line byte by byte: what is kept of it says which pins its bytes name, if any.
+use mathlib.Core.Path.{_≡_, refl, sym, ap, _∙_, subst}
+use mathlib.Core.Bool.{Bool, true, false, cond, _&&_}
+use mathlib.Core.List.{List, [], _∷_, _++_}
+use Prim.Native.Nat.{ℕ, _+_, _*_, _-_, _<_, _≤_}
+use native.Mathlib.Omega.{arith}
+use borrow.Author.Tests.{lt-ltb, le-leb, lt-leb, leb-true, leb-false}
+use lib.Dec.{eqb, leb, ltb}
+use lib.ListN.{length, getD, take, drop}
+use Rattle.text.specs.declared.Number as numbers
+use Rattle.text.specs.declared.Number.the-variants.{Value, Malformed}
+use Rattle.text.specs.Decimal.{isDigit, isLeading, worth, oneDigit, twoDigits, threeDigits, numberOf}
+use Rattle.text.specs.Text.{sameBytes}
+use Rattle.text.proofs.Finding.{drop-next}
+use Rattle.text.proofs.Numbers.{leading-bounds}
+use Rattle.capture.specs.declared.Line.{Line}
+use Rattle.capture.specs.declared.Line.the-variants.{First, Pins, Empty, Number, BadFirst, Bad}
+use Rattle.capture.specs.Feeding.{joinedTo, onWord}
+use Rattle.capture.specs.Reading.{word, asPins, pinsOf}
+
+-- a line after more bytes, none of them a newline
+abbrev pub joinAll : Line → List ℕ → Line
+joinAll l [] = l
+joinAll l (b ∷ bs) = joinAll (joinedTo l b) bs
+
+pub join-all-one : (l : Line) (p : List ℕ) (b : ℕ) → joinAll l (p ++ b ∷ []) ≡ joinedTo (joinAll l p) b
+join-all-one l [] b = refl
+join-all-one l (x ∷ p) b = join-all-one (joinedTo l x) p b
+
+-- the pins, once the first line has them
+abbrev pub pinsIn : Line → numbers.Number
+pinsIn (First k) = Malformed
+pinsIn (Pins p) = Value p
+pinsIn Empty = Malformed
+pinsIn (Number n) = Malformed
+pinsIn BadFirst = Malformed
+pinsIn Bad = Malformed
+
+stays-bad : (p : List ℕ) → joinAll BadFirst p ≡ BadFirst
+unfolding joinedTo
+stays-bad [] = refl
+stays-bad (b ∷ p) = stays-bad p
+
+-- ---- the pins
+
+-- two digits or three are no pins
+long : (t : Bool) (n : ℕ) → 3 < n → asPins (cond t (Value n) Malformed) ≡ Malformed
+long true n h = rw (lt-leb n 3 h)
+long false n h = refl
+
+two-long : (a b : ℕ) → asPins (twoDigits a b) ≡ Malformed
+two-long a b = go (isLeading a) refl
+  where
+    go : (l : Bool) → isLeading a ≡ l → asPins (cond (l && isDigit b) (Value (worth a * 10 + worth b)) Malformed) ≡ Malformed
+    go false e = refl
+    go true e = let bounds = leading-bounds a e in long (isDigit b) _ (omega arith)
+
+three-long : (a b c : ℕ) → asPins (threeDigits a b c) ≡ Malformed
+three-long a b c = go (isLeading a) refl
+  where
+    go : (l : Bool) → isLeading a ≡ l → asPins (cond (l && isDigit b && isDigit c) (Value (worth a * 100 + worth b * 10 + worth c)) Malformed) ≡ Malformed
+    go false e = refl
+    go true e = let bounds = leading-bounds a e in long (isDigit b && isDigit c) _ (omega arith)
+
+longer : (a b : ℕ) (p : List ℕ) → asPins (numberOf (a ∷ b ∷ p)) ≡ Malformed
+unfolding numberOf
+longer a b [] = two-long a b
+longer a b (c ∷ []) = three-long a b c
+longer a b (c ∷ d ∷ p) = refl
+
+-- a digit from 0 to 3 is
+one : (d : ℕ) → pinsIn (cond (leb 48 d && leb d 51) (Pins (worth d)) BadFirst) ≡ asPins (oneDigit d)
+one d = go (leb 48 d) refl (leb d 51) refl (leb d 57) refl
+  where
+    go :
+        (l : Bool) → leb 48 d ≡ l → (t : Bool) → leb d 51 ≡ t → (u : Bool) → leb d 57 ≡ u
+        → pinsIn (cond (l && t) (Pins (worth d)) BadFirst) ≡ asPins (cond (l && u) (Value (worth d)) Malformed)
+    go false el t et u eu = refl
+    go true el true et true eu = rw (le-leb (worth d) 3 (omega (arith, leb-true d 51 et)))
+    go true el true et false eu = absurd (omega (arith, leb-true d 51 et, leb-false d 57 eu))
+    go true el false et true eu = rw (lt-leb (worth d) 3 (omega (arith, leb-false d 51 et)))
+    go true el false et false eu = refl
+
+digits : (p : List ℕ) → pinsIn (joinAll (First 5) p) ≡ asPins (numberOf p)
+unfolding joinedTo numberOf
+digits [] = refl
+digits (d ∷ []) = one d
+digits (d ∷ e ∷ p) = go (leb 48 d && leb d 51) ∙ sym (longer d e p)
+  where
+    go : (t : Bool) → pinsIn (joinAll (joinedTo (cond t (Pins (worth d)) BadFirst) e) p) ≡ Malformed
+    go true = ap pinsIn (stays-bad p)
+    go false = ap pinsIn (stays-bad p)
+
+-- ---- the word before them, of which w is left
+
+awaited : (k b x : ℕ) → k < 5 → getD word k 0 ≡ x → joinedTo (First k) b ≡ cond (eqb b x) (First (k + 1)) BadFirst
+unfolding joinedTo
+awaited k b x h e = rw (lt-ltb k 5 h, e)
+
+word-left : (w : List ℕ) (k : ℕ) → drop k word ≡ w → k + length w ≡ 5 → (p : List ℕ)
+    → pinsIn (joinAll (First k) p) ≡ cond (sameBytes (take (length w) p) w) (asPins (numberOf (drop (length w) p))) Malformed
+word-left [] k e l p = let five : k ≡ 5 = omega arith in rw five (digits p)
+word-left (x ∷ w) k e l [] = refl
+word-left (x ∷ w) k e l (b ∷ p) = go (eqb b x) refl (word-left w (k + 1) behind (omega arith) p)
+  where
+    here : getD word k 0 ∷ drop (k + 1) word ≡ x ∷ w
+    here = sym (drop-next word k (omega arith)) ∙ e
+
+    next : getD word k 0 ≡ x
+    next = cc here
+
+    behind : drop (k + 1) word ≡ w
+    behind = cc here
+
+    go :
+        (t : Bool) → eqb b x ≡ t
+        → pinsIn (joinAll (First (k + 1)) p) ≡ cond (sameBytes (take (length w) p) w) (asPins (numberOf (drop (length w) p))) Malformed
+        → pinsIn (joinAll (joinedTo (First k) b) p)
+        ≡ cond (t && sameBytes (take (length w) p) w) (asPins (numberOf (drop (length w) p))) Malformed
+    go true t rest = rw (awaited k b x (omega arith) next, t) rest
+    go false t rest = rw (awaited k b x (omega arith) next, t) (ap pinsIn (stays-bad p))
+
+pub pins-kept : (p : List ℕ) → pinsIn (joinAll (First 0) p) ≡ pinsOf p
+unfolding pinsOf
+pins-kept p = word-left word 0 refl refl p
