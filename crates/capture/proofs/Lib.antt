@@ -4,3 +4,8 @@ pub mod Answers
 pub mod Digits
 pub mod Pins
 pub mod Whole
+pub mod Pieces
+pub mod Written
+pub mod Courses
+pub mod Ways
+pub mod Laws

@@ -28,8 +28,8 @@ use Rattle.capture.proofs.Digits.{shown, ofNumber, join-shown}
 use Rattle.capture.proofs.Pins.{joinAll, join-all-one, pinsIn, pins-kept}
 
 -- what it comes to if nothing more is fed
-abbrev pub ended : Fed → Replay
-ended f = meaning (endOf (f .line) (f .state .chip)) (f .state .memory) (f .state .writers)
+abbrev pub resultOf : Fed → Replay
+resultOf f = meaning (endOf (f .line) (f .state .chip)) (f .state .memory) (f .state .writers)
 
 -- ---- a refused capture stays refused
 
@@ -48,13 +48,13 @@ stuck-first [] s = refl
 stuck-first (b ∷ xs) s = ap (λ (f : Fed). feedOf xs f) (either (eqb b newline) (fedAs BadFirst s)) ∙ stuck-first xs s
 
 -- at the line after the events that are counted
-bad-line : (xs : List ℕ) (s : State) → ended (feedOf xs (fedAs Bad s)) ≡ refusedAt (s .chip .count + 2) s
+bad-line : (xs : List ℕ) (s : State) → resultOf (feedOf xs (fedAs Bad s)) ≡ refusedAt (s .chip .count + 2) s
 unfolding meaning
-bad-line xs s = ap ended (stuck xs s)
+bad-line xs s = ap resultOf (stuck xs s)
 
-bad-first : (xs : List ℕ) (s : State) → ended (feedOf xs (fedAs BadFirst s)) ≡ refusedAt 1 (started 0 (s .memory) (s .writers))
+bad-first : (xs : List ℕ) (s : State) → resultOf (feedOf xs (fedAs BadFirst s)) ≡ refusedAt 1 (started 0 (s .memory) (s .writers))
 unfolding meaning
-bad-first xs s = ap ended (stuck-first xs s)
+bad-first xs s = ap resultOf (stuck-first xs s)
 
 -- ---- event lines
 
@@ -64,53 +64,53 @@ onto p [] = p ∷ []
 onto p (q ∷ qs) = (p ++ q) ∷ qs
 
 -- a newline behind a line, whatever the lines behind it come to
-module _ (bs : List ℕ) (rest : Said) (h : (s : State) → ended (feedOf bs (fedAs Empty s)) ≡ playFrom (s .chip .count) rest s) (s : State) where
-  event-ended : (e : ℕ) → ended (feedOf bs (playedOn e s)) ≡ playFrom (s .chip .count) (alsoEvent (Value e) rest) s
-  event-ended e = go (refusalOf e s) refl
+module _ (bs : List ℕ) (rest : Said) (h : (s : State) → resultOf (feedOf bs (fedAs Empty s)) ≡ playFrom (s .chip .count) rest s) (s : State) where
+  event-resultOf : (e : ℕ) → resultOf (feedOf bs (playedOn e s)) ≡ playFrom (s .chip .count) (alsoEvent (Value e) rest) s
+  event-resultOf e = go (refusalOf e s) refl
     where
       go :
           (k : ℕ) → refusalOf e s ≡ k
-          → ended (feedOf bs (playedOn e s))
+          → resultOf (feedOf bs (playedOn e s))
           ≡ outcomeOf (unlessStopped k (s .chip .count) s (runFrom (s .chip .count + 1) (rest .events) (accepted e s .state))) (rest .whole)
       go zero q =
-          ap (λ (a : After). ended (feedOf bs (fedAs (afterAnswer (a .answer)) (a .state)))) (accepted-step e s q)
-          ∙ ap (λ (l : Line). ended (feedOf bs (fedAs l (accepted e s .state)))) (answered e s)
+          ap (λ (a : After). resultOf (feedOf bs (fedAs (afterAnswer (a .answer)) (a .state)))) (accepted-step e s q)
+          ∙ ap (λ (l : Line). resultOf (feedOf bs (fedAs l (accepted e s .state)))) (answered e s)
           ∙ h (accepted e s .state)
           ∙ ap (λ (n : ℕ). playFrom n rest (accepted e s .state)) (counts-accepted e s)
       go (suc k) q =
-          ap (λ (a : After). ended (feedOf bs (fedAs (afterAnswer (a .answer)) (a .state)))) (chip.refused e s k q) ∙ bad-line bs s
+          ap (λ (a : After). resultOf (feedOf bs (fedAs (afterAnswer (a .answer)) (a .state)))) (chip.refused e s k q) ∙ bad-line bs s
 
-  line-ended : (p : List ℕ) → ended (feedOf bs (endedLine (shown p) s)) ≡ playFrom (s .chip .count) (alsoEvent (numberOf p) rest) s
+  line-resultOf : (p : List ℕ) → resultOf (feedOf bs (endedLine (shown p) s)) ≡ playFrom (s .chip .count) (alsoEvent (numberOf p) rest) s
   unfolding endedLine numberOf
-  line-ended [] = bad-line bs s
-  line-ended (x ∷ p) = go (numberOf (x ∷ p))
+  line-resultOf [] = bad-line bs s
+  line-resultOf (x ∷ p) = go (numberOf (x ∷ p))
     where
-      go : (v : numbers.Number) → ended (feedOf bs (endedLine (ofNumber v) s)) ≡ playFrom (s .chip .count) (alsoEvent v rest) s
+      go : (v : numbers.Number) → resultOf (feedOf bs (endedLine (ofNumber v) s)) ≡ playFrom (s .chip .count) (alsoEvent v rest) s
       go Malformed = bad-line bs s
-      go (Value e) = event-ended e
+      go (Value e) = event-resultOf e
 
 -- no newline follows
-line-left : (p : List ℕ) (s : State) → ended (fedAs (shown p) s) ≡ playFrom (s .chip .count) (saidBy ((p ++ []) ∷ [])) s
+line-left : (p : List ℕ) (s : State) → resultOf (fedAs (shown p) s) ≡ playFrom (s .chip .count) (saidBy ((p ++ []) ∷ [])) s
 unfolding meaning
 line-left [] s = refl
 line-left (x ∷ p) s = go (numberOf (x ∷ p))
   where
-    go : (v : numbers.Number) → ended (fedAs (ofNumber v) s) ≡ refusedAt (s .chip .count + 2) s
+    go : (v : numbers.Number) → resultOf (fedAs (ofNumber v) s) ≡ refusedAt (s .chip .count + 2) s
     go Malformed = refl
     go (Value e) = refl
 
-events-fed : (xs p : List ℕ) (s : State) → ended (feedOf xs (fedAs (shown p) s)) ≡ playFrom (s .chip .count) (saidBy (onto p (split newline xs))) s
+events-fed : (xs p : List ℕ) (s : State) → resultOf (feedOf xs (fedAs (shown p) s)) ≡ playFrom (s .chip .count) (saidBy (onto p (split newline xs))) s
 unfolding feedOf
 events-fed [] p s = line-left p s
 events-fed (b ∷ bs) p s = go (eqb b newline) (split newline bs) (split-some newline bs) (λ q t. events-fed bs q t)
   where
     go :
         (t : Bool) (qs : List (List ℕ)) → 0 < length qs
-        → ((q : List ℕ) (s′ : State) → ended (feedOf bs (fedAs (shown q) s′)) ≡ playFrom (s′ .chip .count) (saidBy (onto q qs)) s′)
-        → ended (feedOf bs (cond t (endedLine (shown p) s) (fedAs (joinedTo (shown p) b) s)))
+        → ((q : List ℕ) (s′ : State) → resultOf (feedOf bs (fedAs (shown q) s′)) ≡ playFrom (s′ .chip .count) (saidBy (onto q qs)) s′)
+        → resultOf (feedOf bs (cond t (endedLine (shown p) s) (fedAs (joinedTo (shown p) b) s)))
         ≡ playFrom (s .chip .count) (saidBy (onto p (cond t ([] ∷ qs) (onFirst b qs)))) s
     go t [] l h = absurd (omega arith)
-    go true (q ∷ qs) l h = rw (append-nil p) (line-ended bs (saidBy (q ∷ qs)) (λ s′. h [] s′) s p)
+    go true (q ∷ qs) l h = rw (append-nil p) (line-resultOf bs (saidBy (q ∷ qs)) (λ s′. h [] s′) s p)
     go false (q ∷ qs) l h = rw (join-shown p b) (h (p ++ b ∷ []) s ∙ rw (append-snoc p b q))
 
 -- ---- the first line
@@ -144,7 +144,7 @@ all-first [] l i = i
 all-first (b ∷ p) l i = all-first p (joinedTo l b) (joined-first l b i)
 
 -- the first line without a newline, and with one
-first-left : (l : Line) (m w : List ℕ) → IsFirst l → ended (fedAs l (started 0 m w)) ≡ refusedAt 1 (started 0 m w)
+first-left : (l : Line) (m w : List ℕ) → IsFirst l → resultOf (fedAs l (started 0 m w)) ≡ refusedAt 1 (started 0 m w)
 unfolding meaning
 first-left (First k) m w i = refl
 first-left (Pins p) m w i = refl
@@ -153,35 +153,35 @@ first-left (Number n) m w i = absurd i
 first-left BadFirst m w i = refl
 first-left Bad m w i = absurd i
 
-first-ended :
+first-resultOf :
     (l : Line) (bs q : List ℕ) (qs : List (List ℕ)) (m w : List ℕ) → IsFirst l → split newline bs ≡ q ∷ qs
-    → ended (feedOf bs (endedLine l (started 0 m w))) ≡ withPins (pinsIn l) (saidBy (q ∷ qs)) m w
+    → resultOf (feedOf bs (endedLine l (started 0 m w))) ≡ withPins (pinsIn l) (saidBy (q ∷ qs)) m w
 unfolding endedLine
-first-ended (First k) bs q qs m w i e = bad-first bs (started 0 m w)
-first-ended (Pins p) bs q qs m w i e = events-fed bs [] (started p m w) ∙ rw e
-first-ended Empty bs q qs m w i e = absurd i
-first-ended (Number n) bs q qs m w i e = absurd i
-first-ended BadFirst bs q qs m w i e = bad-first bs (started 0 m w)
-first-ended Bad bs q qs m w i e = absurd i
+first-resultOf (First k) bs q qs m w i e = bad-first bs (started 0 m w)
+first-resultOf (Pins p) bs q qs m w i e = events-fed bs [] (started p m w) ∙ rw e
+first-resultOf Empty bs q qs m w i e = absurd i
+first-resultOf (Number n) bs q qs m w i e = absurd i
+first-resultOf BadFirst bs q qs m w i e = bad-first bs (started 0 m w)
+first-resultOf Bad bs q qs m w i e = absurd i
 
 first-fed :
     (xs p m w : List ℕ)
-    → ended (feedOf xs (fedAs (joinAll (First 0) p) (started 0 m w))) ≡ replayLines (onto p (split newline xs)) m w
+    → resultOf (feedOf xs (fedAs (joinAll (First 0) p) (started 0 m w))) ≡ replayLines (onto p (split newline xs)) m w
 unfolding feedOf
 first-fed [] p m w = first-left (joinAll (First 0) p) m w (all-first p (First 0) tt)
 first-fed (b ∷ bs) p m w = go (eqb b newline) (split newline bs) refl (split-some newline bs) (λ q. first-fed bs q m w)
   where
     go :
         (t : Bool) (qs : List (List ℕ)) → split newline bs ≡ qs → 0 < length qs
-        → ((q : List ℕ) → ended (feedOf bs (fedAs (joinAll (First 0) q) (started 0 m w))) ≡ replayLines (onto q qs) m w)
-        → ended (feedOf bs (cond t (endedLine (joinAll (First 0) p) (started 0 m w)) (fedAs (joinedTo (joinAll (First 0) p) b) (started 0 m w))))
+        → ((q : List ℕ) → resultOf (feedOf bs (fedAs (joinAll (First 0) q) (started 0 m w))) ≡ replayLines (onto q qs) m w)
+        → resultOf (feedOf bs (cond t (endedLine (joinAll (First 0) p) (started 0 m w)) (fedAs (joinedTo (joinAll (First 0) p) b) (started 0 m w))))
         ≡ replayLines (onto p (cond t ([] ∷ qs) (onFirst b qs))) m w
     go t [] e l h = absurd (omega arith)
     go true (q ∷ qs) e l h =
-        first-ended (joinAll (First 0) p) bs q qs m w (all-first p (First 0) tt) e ∙ rw (pins-kept p, append-nil p)
+        first-resultOf (joinAll (First 0) p) bs q qs m w (all-first p (First 0) tt) e ∙ rw (pins-kept p, append-nil p)
     go false (q ∷ qs) e l h = rw (← join-all-one (First 0) p b) (h (p ++ b ∷ []) ∙ ap (λ (l : List ℕ). replayLines (l ∷ qs) m w) (append-snoc p b q))
 
-pub text-fed : (text m w : List ℕ) → ended (feedOf text (fedAs (First 0) (started 0 m w))) ≡ replayOf text m w
+pub text-fed : (text m w : List ℕ) → resultOf (feedOf text (fedAs (First 0) (started 0 m w))) ≡ replayOf text m w
 unfolding replayOf
 text-fed text m w = first-fed text [] m w ∙ go (split newline text) (split-some newline text)
   where

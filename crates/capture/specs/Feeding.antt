@@ -1,6 +1,6 @@
 -- A capture byte by byte: what is kept of the present line, and what a newline does. proofs/Laws.antt holds it against `replayOf`.
 use mathlib.Core.Bool.{Bool, true, false, cond, _&&_}
-use mathlib.Core.List.{List, [], _∷_}
+use mathlib.Core.List.{List, [], _∷_, _++_}
 use Prim.Native.Nat.{ℕ, _+_, _*_, _-_}
 use lib.Dec.{eqb, leb, ltb}
 use lib.ListN.{getD}
@@ -81,6 +81,15 @@ fedByte b f = cond (eqb b newline) (endedLine (f .line) (f .state)) (fedAs (join
 unfoldable pub feedOf : List ℕ → Fed → Fed
 feedOf [] f = f
 feedOf (b ∷ bs) f = feedOf bs (fedByte b f)
+
+-- part after part
+abbrev pub feedParts : List (List ℕ) → Fed → Fed
+feedParts [] f = f
+feedParts (p ∷ ps) f = feedParts ps (feedOf p f)
+
+abbrev pub allParts : List (List ℕ) → List ℕ
+allParts [] = []
+allParts (p ∷ ps) = p ++ allParts ps
 
 abbrev pub endOf : Line → Chip → End
 endOf (First k) c = ends.BadFirst

@@ -1,3 +1,5 @@
 pub mod Reading
 pub mod Replay
 pub mod Feeding
+pub mod Where
+pub mod Cells

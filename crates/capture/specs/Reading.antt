@@ -3,7 +3,7 @@ use mathlib.Core.Bool.{Bool, true, false, cond}
 use mathlib.Core.List.{List, [], _∷_, _++_}
 use Prim.Native.Nat.{ℕ}
 use lib.Dec.{leb}
-use lib.ListN.{take, drop, length}
+use lib.ListN.{take, drop}
 use Rattle.text.specs.declared.Number.{Number}
 use Rattle.text.specs.declared.Number.the-variants.{Value, Malformed}
 use Rattle.text.specs.Decimal.{numberOf, decimal}
@@ -53,9 +53,16 @@ saidBy (p ∷ q ∷ ps) = alsoEvent (numberOf p) (saidBy (q ∷ ps))
 
 -- ---- the other way: how a capture is written
 
-abbrev pub eventLines : List ℕ → List ℕ
-eventLines [] = []
-eventLines (e ∷ es) = decimal e ++ newline ∷ eventLines es
+abbrev pub firstLine : ℕ → List ℕ
+firstLine pins = word ++ decimal pins
+
+-- one event a line, and then the rest of a text
+abbrev pub eventLines : List ℕ → List ℕ → List ℕ
+eventLines [] rest = rest
+eventLines (e ∷ es) rest = decimal e ++ newline ∷ eventLines es rest
+
+abbrev pub captureThen : ℕ → List ℕ → List ℕ → List ℕ
+captureThen pins es rest = firstLine pins ++ newline ∷ eventLines es rest
 
 abbrev pub captureText : ℕ → List ℕ → List ℕ
-captureText pins es = (word ++ decimal pins) ++ newline ∷ eventLines es
+captureText pins es = captureThen pins es []
