@@ -11,6 +11,7 @@ use Rattle.chip.specs.Promised.{Answer, Refused, Nothing, Acknowledged, NotAckn
 use Rattle.text.specs.Decimal.{isDigit, worth}
 use Rattle.capture.specs.declared.Line.{Line}
 use Rattle.capture.specs.declared.Line.the-variants.{First, Pins, Empty, Number, BadFirst, Bad}
+use Rattle.capture.specs.declared.bytes.Scanned.{Scanned}
 use Rattle.capture.specs.declared.Capture.{Capture}
 use Rattle.capture.specs.declared.End.{End}
 use Rattle.capture.specs.declared.End.the-variants as ends
@@ -52,6 +53,11 @@ joinedTo Empty b = onDigit b
 joinedTo (Number n) b = onNumber n b
 joinedTo BadFirst b = BadFirst
 joinedTo Bad b = Bad
+
+-- a line with the bytes up to the next newline, the first of them at a place, and the place where that ends
+unfoldable pub scannedFrom : ℕ → List ℕ → Line → Scanned
+scannedFrom at [] l = record { line = l; at = at }
+scannedFrom at (b ∷ bs) l = cond (eqb b newline) (record { line = l; at = at }) (scannedFrom (at + 1) bs (joinedTo l b))
 
 -- ---- a newline
 

@@ -1,10 +1,11 @@
 // The bytes of a line, one after the other.
 ghost use mathlib.Core.Path.{_≡_};
+ghost use lib.ListN.{drop};
 ghost use Rattle.text.specs.Decimal.{isDigit};
-ghost use Rattle.capture.specs.Feeding.{onWord, onDigit, onNumber, joinedTo};
+ghost use Rattle.capture.specs.Feeding.{onWord, onDigit, onNumber, joinedTo, scannedFrom};
 use crate::Line;
 
-pub const NEWLINE: u8 = 10;
+const NEWLINE: u8 = 10;
 
 // What the first line begins with.
 const WORD: [u8; 5] = *b"pins\t";
@@ -52,7 +53,7 @@ fn on_number(n: u16, byte: u8) -> Line
 }
 
 // The line with one byte more, which is no newline.
-pub fn joined(line: Line, byte: u8) -> Line
+fn joined(line: Line, byte: u8) -> Line
     ensures { λ r. ⌜ r ≡ joinedTo line byte ⌝ }
 {
     match line {
@@ -63,4 +64,28 @@ pub fn joined(line: Line, byte: u8) -> Line
         Line::BadFirst => Line::BadFirst,
         Line::Bad => Line::Bad,
     }
+}
+
+// A line, and the place up to which it has been read.
+pub struct Scanned {
+    pub line: Line,
+    pub at: usize,
+}
+
+// The line with the bytes from a place on, up to the next newline or to the end of the part. The chip does not come into it, so that the
+// loop over bytes is a small one.
+pub fn scan(line: Line, part: &[u8], from: usize) -> Scanned
+    ensures { λ r. ⌜ r ≡ scannedFrom from (drop from (now (part .entry))) line ⌝ }
+{
+    let mut read = line;
+    let mut at = from;
+    while at < part.len() {
+        let byte = part[at];
+        if byte == NEWLINE {
+            return Scanned { line: read, at };
+        }
+        read = joined(read, byte);
+        at += 1;
+    }
+    Scanned { line: read, at }
 }

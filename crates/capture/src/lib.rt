@@ -56,15 +56,15 @@ pub fn feed(capture: Capture, memory: &mut [u8], writers: &mut [u64], part: &[u8
     let mut line = capture.line;
     let mut at = 0;
     while at < part.len() {
-        let byte = part[at];
-        if byte == bytes::NEWLINE {
+        let scanned = bytes::scan(line, part, at);
+        line = scanned.line;
+        at = scanned.at;
+        if at < part.len() {
             let ended = play::end_line(chip, line, memory, writers);
             chip = ended.chip;
             line = ended.line;
-        } else {
-            line = bytes::joined(line, byte);
+            at += 1;
         }
-        at += 1;
     }
     Capture { chip, line }
 }

@@ -1,13 +1,11 @@
-use Rattle.capture.proofs.Feeds.{feed-ends, at-newline, at-other}
-use Rattle.capture.specs.declared.Line.{Line}
-use mathlib.Core.Logic.{⊎-elim}
+use Rattle.capture.proofs.Feeds.{feed-ends, scanned, line-ends}
 use Rattle.capture.specs.Feeding.{fedAs, feedOf}
 use Rattle.registers.specs.State.{state}
 use lib.ListN.{length, drop}
 use native.Mathlib.Omega.{arith}
 use borrow.Author.Needs.{needs}
 use Prim.Native.Nat.{_-_, _≤_}
-use mathlib.Core.Path.{_≡_, refl, sym, ap, _∙_}
+use mathlib.Core.Path.{_≡_, refl, sym, _∙_}
 use Rattle.capture.proofs.feed.Statement.{statement}
 use Rattle.capture.proofs.feed.Tie as tie
 
@@ -24,39 +22,37 @@ abbrev μ-loop : tie.MeasureT-loop
 loop-holds : tie.Need-loop-holds Inv-loop μ-loop
 loop-holds c = (search needs, refl, refl, refl)
 
-shared-slice-read-byte : tie.Need-shared-slice-read-byte Inv-loop μ-loop
-shared-slice-read-byte c = search needs
+scan-requires : tie.Need-scan-requires Inv-loop μ-loop
+scan-requires c κs = search needs
 
 end-line-requires : tie.Need-end-line-requires Inv-loop μ-loop
 end-line-requires c κs = search needs
 
-joined-requires : tie.Need-joined-requires Inv-loop μ-loop
-joined-requires c κs = search needs
-
 add-at : tie.Need-add-at Inv-loop μ-loop
-add-at c = search needs
+add-at c = omega (arith, c .before .before .before .before .before .before .before .before .if1 .taken, c .before .before .before .before .before .before .before .before .before .before .before .before .before .before .before .before .good)
 
 loop-less : tie.Need-loop-less Inv-loop μ-loop
-loop-less c = search needs
+loop-less c = let scan = scanned (c .before .before .before .before .before .before .before .before .before .before .before .before .before .before .before .before .args .part .now) (c .before .before .before .before .before .before .before .before .before .before .before .loop .at) _ _ (c .before .before .before .before .before .before .before .before .before .scan .ensures) (c .before .before .before .before .before .before .before .before .before .before .before .loop .inv .0) in omega (arith, scan .starts)
 
 loop-again : tie.Need-loop-again Inv-loop μ-loop
 loop-again c =
-    let at-head = c .before .before .before .loop .inv in
-    let inside = c .before .before .loop-test .taken in
-    ⊎-elim
-    (λ w. (
+    let head = c .before .before .before .before .before .before .before .before .before .before .before .loop .inv in
+    let scan = scanned (c .before .before .before .before .before .before .before .before .before .before .before .before .before .before .before .before .args .part .now) (c .before .before .before .before .before .before .before .before .before .before .before .loop .at) _ _ (c .before .before .before .before .before .before .before .before .before .scan .ensures) (c .before .before .before .before .before .before .before .before .before .before .before .loop .inv .0) in
+    let ended = c .before .before .before .before .before .end-line in (
       search needs,
-      ap length (w .9) ∙ w .3 .kept .1 .1 .0 ∙ at-head .1,
-      ap length (w .10) ∙ w .3 .kept .1 .1 .1 .0 ∙ at-head .2,
-      at-newline _ _ inside _ _ _ _ _ _ _ _ _ _ (w .9) (w .10) (w .11) (w .12) (w .0 .taken) (w .3 .ensures) ∙ at-head .3,
-    ))
-    (λ w. (
-      search needs,
-      ap length (w .2) ∙ at-head .1,
-      ap length (w .3) ∙ at-head .2,
-      at-other _ _ inside _ _ _ _ _ _ _ _ _ _ (w .2) (w .3) (w .4) (w .5) (w .0 .left) (ap (λ (l : Line). fedAs l _) (w .1 .ensures)) ∙ at-head .3,
-    ))
-    (c .if1 .came)
+      ended .kept .1 .1 .0 ∙ head .1,
+      ended .kept .1 .1 .1 .0 ∙ head .2,
+      line-ends _ _ _ _ _ (c .before .before .before .before .before .before .before .before .if1 .taken) (scan .stops (c .before .before .before .before .before .before .before .before .if1 .taken)) (ended .ensures) ∙ sym (scan .leaves _) ∙ head .3,
+    )
+
+loop-less-2 : tie.Need-loop-less-2 Inv-loop μ-loop
+loop-less-2 c = let scan = scanned (c .before .before .before .before .before .before .before .before .args .part .now) (c .before .before .before .loop .at) _ _ (c .before .scan .ensures) (c .before .before .before .loop .inv .0) in omega (arith, scan .within)
+
+loop-again-2 : tie.Need-loop-again-2 Inv-loop μ-loop
+loop-again-2 c =
+    let head = c .before .before .before .loop .inv in
+    let scan = scanned (c .before .before .before .before .before .before .before .before .args .part .now) (c .before .before .before .loop .at) _ _ (c .before .scan .ensures) (c .before .before .before .loop .inv .0) in
+    (scan .within, head .1, head .2, sym (scan .leaves _) ∙ head .3)
 
 same-length : tie.Need-same-length Inv-loop μ-loop
 same-length c = search needs
@@ -74,12 +70,13 @@ feed-spec =
     Inv-loop
     μ-loop
     loop-holds
-    shared-slice-read-byte
+    scan-requires
     end-line-requires
-    joined-requires
     add-at
     loop-less
     loop-again
+    loop-less-2
+    loop-again-2
     same-length
     same-length-2
     returns)
