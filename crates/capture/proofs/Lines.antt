@@ -6,6 +6,7 @@ use Prim.Native.Nat.{ℕ, _+_, _*_, _-_, _<_, _≤_}
 use borrow.Author.Tests.{leb-true, ltb-true}
 use lib.Dec.{leb, ltb}
 use Rattle.registers.specs.State.{State}
+use Rattle.registers.proofs.Below.{false-true}
 use Rattle.text.proofs.Numbers.{and-both, digit-bounds}
 use Rattle.text.specs.Decimal.{isDigit, worth}
 use Rattle.chip.specs.Promised.{After, stepOf}
@@ -13,7 +14,7 @@ use Rattle.capture.specs.declared.Line.{Line}
 use Rattle.capture.specs.declared.Line.the-variants.{First, Pins, Empty, Number, BadFirst, Bad}
 use Rattle.capture.specs.declared.End.{End}
 use Rattle.registers.specs.declared.Chip.{Chip}
-use Rattle.capture.specs.Feeding.{Fed, fedAs, onNumber, onDigit, joinedTo, afterAnswer, playedOn, endedLine, endOf}
+use Rattle.capture.specs.Feeding.{Fed, fedAs, isPins, goesOn, onNumber, joinedTo, afterAnswer, playedOn, endedLine, endOf}
 
 -- a test by its value
 pub chosen : (t : Bool) (l a b : Line) → t ≡ true → l ≡ a → l ≡ cond t a b
@@ -29,21 +30,28 @@ module _ (b : ℕ) (t : Bool) (e : t ≡ isDigit b) where
   digit-range h = digit-bounds b (sym e ∙ h)
 
   -- one digit more behind n
-  module _ (n : ℕ) where
-    pub more-range : ltb 0 n && ltb n 100 && t ≡ true → (n < 100) × (48 ≤ b) × (b ≤ 57)
+  module _ (n : ℕ) (u : Bool) (eu : u ≡ goesOn n) where
+    pub more-range : u && t ≡ true → (n < 100) × (48 ≤ b) × (b ≤ 57)
     more-range h =
-        let tests = and-both (ltb 0 n && ltb n 100) t h in
+        let tests = and-both u t h in
         let range = digit-range (tests .1) in
-        (ltb-true _ _ (and-both (ltb 0 n) (ltb n 100) (tests .0) .1), range .0, range .1)
+        (ltb-true _ _ (and-both (ltb 0 n) (ltb n 100) (sym eu ∙ tests .0) .1), range .0, range .1)
 
-    pub more : ltb 0 n && ltb n 100 && t ≡ true → Number (n * 10 + (b - 48)) ≡ onNumber n b
-    more h = chosen (ltb 0 n && ltb n 100 && isDigit b) _ _ _ (subst (λ (x : Bool). ltb 0 n && ltb n 100 && x ≡ true) e h) refl
+    same-test : (v : Bool) → u && t ≡ v → goesOn n && isDigit b ≡ v
+    same-test v h = rw (← eu, ← e) h
 
-    pub no-more : ltb 0 n && ltb n 100 && t ≡ false → Bad ≡ onNumber n b
-    no-more h = passed (ltb 0 n && ltb n 100 && isDigit b) _ _ _ (subst (λ (x : Bool). ltb 0 n && ltb n 100 && x ≡ false) e h) refl
+    pub more : u && t ≡ true → Number (n * 10 + (b - 48)) ≡ onNumber n b
+    more h = chosen (goesOn n && isDigit b) _ _ _ (same-test true h) refl
 
-pub pins-range : (b : ℕ) → leb 48 b && leb b 51 ≡ true → 48 ≤ b
-pins-range b h = leb-true _ _ (and-both (leb 48 b) (leb b 51) h .0)
+    pub no-more : u && t ≡ false → Bad ≡ onNumber n b
+    no-more h = passed (goesOn n && isDigit b) _ _ _ (same-test false h) refl
+
+pub pins-range : (b : ℕ) (t : Bool) → t ≡ isPins b → t ≡ true → 48 ≤ b
+pins-range b t e h = go (leb 48 b) refl (sym e ∙ h)
+  where
+    go : (l : Bool) → leb 48 b ≡ l → isPins b ≡ true → 48 ≤ b
+    go true el is = leb-true _ _ el
+    go false el is = absurd (false-true (rw el at is))
 
 -- ---- a line that is told
 

@@ -15,7 +15,7 @@ use Rattle.text.proofs.Finding.{drop-next}
 use Rattle.text.proofs.Numbers.{leading-bounds}
 use Rattle.capture.specs.declared.Line.{Line}
 use Rattle.capture.specs.declared.Line.the-variants.{First, Pins, Empty, Number, BadFirst, Bad}
-use Rattle.capture.specs.Feeding.{joinedTo, onWord}
+use Rattle.capture.specs.Feeding.{isPins, joinedTo}
 use Rattle.capture.specs.Reading.{word, asPins, pinsOf}
 
 -- a line after more bytes, none of them a newline
@@ -69,7 +69,7 @@ longer a b (c ∷ []) = three-long a b c
 longer a b (c ∷ d ∷ p) = refl
 
 -- a digit from 0 to 3 is
-one : (d : ℕ) → pinsIn (cond (leb 48 d && leb d 51) (Pins (worth d)) BadFirst) ≡ asPins (oneDigit d)
+one : (d : ℕ) → pinsIn (cond (isPins d) (Pins (worth d)) BadFirst) ≡ asPins (oneDigit d)
 one d = go (leb 48 d) refl (leb d 51) refl (leb d 57) refl
   where
     go :
@@ -85,7 +85,7 @@ digits : (p : List ℕ) → pinsIn (joinAll (First 5) p) ≡ asPins (numberOf p)
 unfolding joinedTo numberOf
 digits [] = refl
 digits (d ∷ []) = one d
-digits (d ∷ e ∷ p) = go (leb 48 d && leb d 51) ∙ sym (longer d e p)
+digits (d ∷ e ∷ p) = go (isPins d) ∙ sym (longer d e p)
   where
     go : (t : Bool) → pinsIn (joinAll (joinedTo (cond t (Pins (worth d)) BadFirst) e) p) ≡ Malformed
     go true = ap pinsIn (stays-bad p)

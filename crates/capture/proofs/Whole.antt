@@ -1,16 +1,16 @@
 -- Bytes fed one by one come to what the whole text says, line by line.
 use mathlib.Core.Path.{_≡_, refl, sym, ap, _∙_, subst}
-use mathlib.Core.Bool.{Bool, true, false, cond, _&&_}
+use mathlib.Core.Bool.{Bool, true, false, cond}
 use mathlib.Core.List.{List, [], _∷_, _++_, append-nil, append-assoc}
 use Prim.Native.Nat.{ℕ, zero, suc, _+_, _<_}
 use native.Mathlib.Omega.{arith}
-use lib.Dec.{eqb, leb, ltb}
+use lib.Dec.{eqb, ltb}
 use lib.ListN.{length, getD}
 use lib.Seq.{append-snoc}
 use Rattle.registers.specs.State.{State, state}
 use Rattle.text.specs.declared.Number as numbers
 use Rattle.text.specs.declared.Number.the-variants.{Value, Malformed}
-use Rattle.text.specs.Decimal.{numberOf, worth}
+use Rattle.text.specs.Decimal.{numberOf}
 use Rattle.text.specs.Text.{split, onFirst}
 use Rattle.text.proofs.Splitting.{split-some}
 use Rattle.engine.specs.Run.{unlessStopped}
@@ -20,7 +20,7 @@ use Rattle.chip.proofs.Laws as chip
 use Rattle.chip.proofs.Refusals.{accepted-step}
 use Rattle.capture.specs.declared.Line.{Line}
 use Rattle.capture.specs.declared.Line.the-variants.{First, Pins, Empty, Number, BadFirst, Bad}
-use Rattle.capture.specs.Feeding.{Fed, fedAs, afterAnswer, playedOn, joinedTo, endedLine, fedByte, feedOf, endOf, meaning}
+use Rattle.capture.specs.Feeding.{Fed, fedAs, isPins, afterAnswer, playedOn, joinedTo, endedLine, fedByte, feedOf, endOf, meaning}
 use Rattle.capture.specs.Reading.{newline, word, Said, saidBy, alsoEvent, pinsOf}
 use Rattle.capture.specs.Replay.{Replay, refusedAt, started, outcomeOf, playFrom, withPins, replayLines, replayOf}
 use Rattle.capture.proofs.Answers.{answered}
@@ -65,8 +65,8 @@ onto p (q ∷ qs) = (p ++ q) ∷ qs
 
 -- a newline behind a line, whatever the lines behind it come to
 module _ (bs : List ℕ) (rest : Said) (h : (s : State) → resultOf (feedOf bs (fedAs Empty s)) ≡ playFrom (s .chip .count) rest s) (s : State) where
-  event-resultOf : (e : ℕ) → resultOf (feedOf bs (playedOn e s)) ≡ playFrom (s .chip .count) (alsoEvent (Value e) rest) s
-  event-resultOf e = go (refusalOf e s) refl
+  event-ended : (e : ℕ) → resultOf (feedOf bs (playedOn e s)) ≡ playFrom (s .chip .count) (alsoEvent (Value e) rest) s
+  event-ended e = go (refusalOf e s) refl
     where
       go :
           (k : ℕ) → refusalOf e s ≡ k
@@ -80,14 +80,14 @@ module _ (bs : List ℕ) (rest : Said) (h : (s : State) → resultOf (feedOf bs 
       go (suc k) q =
           ap (λ (a : After). resultOf (feedOf bs (fedAs (afterAnswer (a .answer)) (a .state)))) (chip.refused e s k q) ∙ bad-line bs s
 
-  line-resultOf : (p : List ℕ) → resultOf (feedOf bs (endedLine (shown p) s)) ≡ playFrom (s .chip .count) (alsoEvent (numberOf p) rest) s
+  line-ended : (p : List ℕ) → resultOf (feedOf bs (endedLine (shown p) s)) ≡ playFrom (s .chip .count) (alsoEvent (numberOf p) rest) s
   unfolding endedLine numberOf
-  line-resultOf [] = bad-line bs s
-  line-resultOf (x ∷ p) = go (numberOf (x ∷ p))
+  line-ended [] = bad-line bs s
+  line-ended (x ∷ p) = go (numberOf (x ∷ p))
     where
       go : (v : numbers.Number) → resultOf (feedOf bs (endedLine (ofNumber v) s)) ≡ playFrom (s .chip .count) (alsoEvent v rest) s
       go Malformed = bad-line bs s
-      go (Value e) = event-resultOf e
+      go (Value e) = event-ended e
 
 -- no newline follows
 line-left : (p : List ℕ) (s : State) → resultOf (fedAs (shown p) s) ≡ playFrom (s .chip .count) (saidBy ((p ++ []) ∷ [])) s
@@ -110,65 +110,51 @@ events-fed (b ∷ bs) p s = go (eqb b newline) (split newline bs) (split-some ne
         → resultOf (feedOf bs (cond t (endedLine (shown p) s) (fedAs (joinedTo (shown p) b) s)))
         ≡ playFrom (s .chip .count) (saidBy (onto p (cond t ([] ∷ qs) (onFirst b qs)))) s
     go t [] l h = absurd (omega arith)
-    go true (q ∷ qs) l h = rw (append-nil p) (line-resultOf bs (saidBy (q ∷ qs)) (λ s′. h [] s′) s p)
+    go true (q ∷ qs) l h = rw (append-nil p) (line-ended bs (saidBy (q ∷ qs)) (λ s′. h [] s′) s p)
     go false (q ∷ qs) l h = rw (join-shown p b) (h (p ++ b ∷ []) s ∙ rw (append-snoc p b q))
 
 -- ---- the first line
 
 -- it stays the first until its newline
-abbrev IsFirst : Line → Type 0
-IsFirst (First k) = Unit {0}
-IsFirst (Pins p) = Unit {0}
-IsFirst Empty = ⊥
-IsFirst (Number n) = ⊥
-IsFirst BadFirst = Unit {0}
-IsFirst Bad = ⊥
+data IsFirst : Line → Type 0 where
+  first : {k : ℕ} → IsFirst (First k)
+  pins : {p : ℕ} → IsFirst (Pins p)
+  bad : IsFirst BadFirst
 
-word-first : (a b c : Bool) (k p : ℕ) → IsFirst (cond a (cond b (First k) BadFirst) (cond c (Pins p) BadFirst))
-word-first true true c k p = tt
-word-first true false c k p = tt
-word-first false b true k p = tt
-word-first false b false k p = tt
+either-first : (t : Bool) (k l : Line) → IsFirst k → IsFirst l → IsFirst (cond t k l)
+either-first true k l i j = i
+either-first false k l i j = j
 
-joined-first : (l : Line) (b : ℕ) → IsFirst l → IsFirst (joinedTo l b)
+joined-first : {l : Line} (b : ℕ) → IsFirst l → IsFirst (joinedTo l b)
 unfolding joinedTo
-joined-first (First k) b i = word-first (ltb k 5) (eqb b (getD word k 0)) (leb 48 b && leb b 51) (k + 1) (worth b)
-joined-first (Pins p) b i = tt
-joined-first Empty b i = absurd i
-joined-first (Number n) b i = absurd i
-joined-first BadFirst b i = tt
-joined-first Bad b i = absurd i
+joined-first b (first {k}) = either-first (ltb k 5) _ _ (either-first (eqb b (getD word k 0)) _ _ first bad) (either-first (isPins b) _ _ pins bad)
+joined-first b pins = bad
+joined-first b bad = bad
 
-all-first : (p : List ℕ) (l : Line) → IsFirst l → IsFirst (joinAll l p)
-all-first [] l i = i
-all-first (b ∷ p) l i = all-first p (joinedTo l b) (joined-first l b i)
+all-first : (p : List ℕ) {l : Line} → IsFirst l → IsFirst (joinAll l p)
+all-first [] i = i
+all-first (b ∷ p) i = all-first p (joined-first b i)
 
 -- the first line without a newline, and with one
-first-left : (l : Line) (m w : List ℕ) → IsFirst l → resultOf (fedAs l (started 0 m w)) ≡ refusedAt 1 (started 0 m w)
+first-left : {l : Line} (m w : List ℕ) → IsFirst l → resultOf (fedAs l (started 0 m w)) ≡ refusedAt 1 (started 0 m w)
 unfolding meaning
-first-left (First k) m w i = refl
-first-left (Pins p) m w i = refl
-first-left Empty m w i = absurd i
-first-left (Number n) m w i = absurd i
-first-left BadFirst m w i = refl
-first-left Bad m w i = absurd i
+first-left m w first = refl
+first-left m w pins = refl
+first-left m w bad = refl
 
-first-resultOf :
-    (l : Line) (bs q : List ℕ) (qs : List (List ℕ)) (m w : List ℕ) → IsFirst l → split newline bs ≡ q ∷ qs
+first-ended :
+    {l : Line} (bs q : List ℕ) (qs : List (List ℕ)) (m w : List ℕ) → IsFirst l → split newline bs ≡ q ∷ qs
     → resultOf (feedOf bs (endedLine l (started 0 m w))) ≡ withPins (pinsIn l) (saidBy (q ∷ qs)) m w
 unfolding endedLine
-first-resultOf (First k) bs q qs m w i e = bad-first bs (started 0 m w)
-first-resultOf (Pins p) bs q qs m w i e = events-fed bs [] (started p m w) ∙ rw e
-first-resultOf Empty bs q qs m w i e = absurd i
-first-resultOf (Number n) bs q qs m w i e = absurd i
-first-resultOf BadFirst bs q qs m w i e = bad-first bs (started 0 m w)
-first-resultOf Bad bs q qs m w i e = absurd i
+first-ended bs q qs m w first e = bad-first bs (started 0 m w)
+first-ended bs q qs m w (pins {p}) e = events-fed bs [] (started p m w) ∙ rw e
+first-ended bs q qs m w bad e = bad-first bs (started 0 m w)
 
 first-fed :
     (xs p m w : List ℕ)
     → resultOf (feedOf xs (fedAs (joinAll (First 0) p) (started 0 m w))) ≡ replayLines (onto p (split newline xs)) m w
 unfolding feedOf
-first-fed [] p m w = first-left (joinAll (First 0) p) m w (all-first p (First 0) tt)
+first-fed [] p m w = first-left m w (all-first p first)
 first-fed (b ∷ bs) p m w = go (eqb b newline) (split newline bs) refl (split-some newline bs) (λ q. first-fed bs q m w)
   where
     go :
@@ -178,7 +164,7 @@ first-fed (b ∷ bs) p m w = go (eqb b newline) (split newline bs) refl (split-s
         ≡ replayLines (onto p (cond t ([] ∷ qs) (onFirst b qs))) m w
     go t [] e l h = absurd (omega arith)
     go true (q ∷ qs) e l h =
-        first-resultOf (joinAll (First 0) p) bs q qs m w (all-first p (First 0) tt) e ∙ rw (pins-kept p, append-nil p)
+        first-ended bs q qs m w (all-first p first) e ∙ rw (pins-kept p, append-nil p)
     go false (q ∷ qs) e l h = rw (← join-all-one (First 0) p b) (h (p ++ b ∷ []) ∙ ap (λ (l : List ℕ). replayLines (l ∷ qs) m w) (append-snoc p b q))
 
 pub text-fed : (text m w : List ℕ) → resultOf (feedOf text (fedAs (First 0) (started 0 m w))) ≡ replayOf text m w

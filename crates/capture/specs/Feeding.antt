@@ -34,17 +34,24 @@ startOf = record { chip = resetChip 0; line = First 0 }
 
 -- ---- a byte that is no newline
 
+-- 0 to 3
+abbrev pub isPins : ℕ → Bool
+isPins b = leb 48 b && leb b 51
+
 abbrev pub onWord : ℕ → ℕ → Line
 onWord k b =
     cond (ltb k 5) (cond (eqb b (getD word k 0)) (First (k + 1)) BadFirst)
-    (cond (leb 48 b && leb b 51) (Pins (worth b)) BadFirst)
+    (cond (isPins b) (Pins (worth b)) BadFirst)
 
 abbrev pub onDigit : ℕ → Line
 onDigit b = cond (isDigit b) (Number (worth b)) Bad
 
 -- no digit follows a 0, and none a number of three digits
+abbrev pub goesOn : ℕ → Bool
+goesOn n = ltb 0 n && ltb n 100
+
 abbrev pub onNumber : ℕ → ℕ → Line
-onNumber n b = cond (ltb 0 n && ltb n 100 && isDigit b) (Number (n * 10 + worth b)) Bad
+onNumber n b = cond (goesOn n && isDigit b) (Number (n * 10 + worth b)) Bad
 
 unfoldable pub joinedTo : Line → ℕ → Line
 joinedTo (First k) b = onWord k b

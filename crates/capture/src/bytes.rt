@@ -2,7 +2,7 @@
 ghost use mathlib.Core.Path.{_≡_};
 ghost use lib.ListN.{drop};
 ghost use Rattle.text.specs.Decimal.{isDigit};
-ghost use Rattle.capture.specs.Feeding.{onWord, onDigit, onNumber, joinedTo, scannedFrom};
+ghost use Rattle.capture.specs.Feeding.{isPins, onWord, onDigit, goesOn, onNumber, joinedTo, scannedFrom};
 use crate::Line;
 
 const NEWLINE: u8 = 10;
@@ -16,6 +16,12 @@ fn is_digit(byte: u8) -> bool
     (48 <= byte) & (byte <= 57)
 }
 
+fn is_pins(byte: u8) -> bool
+    ensures { λ r. ⌜ r ≡ isPins byte ⌝ }
+{
+    (48 <= byte) & (byte <= 51)
+}
+
 // The first line with k bytes: the next of the word, and then the pins.
 fn on_word(k: u8, byte: u8) -> Line
     ensures { λ r. ⌜ r ≡ onWord k byte ⌝ }
@@ -26,7 +32,7 @@ fn on_word(k: u8, byte: u8) -> Line
         }
         return Line::BadFirst;
     }
-    if (48 <= byte) & (byte <= 51) {
+    if is_pins(byte) {
         return Line::Pins(byte - 48);
     }
     Line::BadFirst
@@ -42,11 +48,18 @@ fn on_digit(byte: u8) -> Line
     Line::Bad
 }
 
-// One digit more. After a 0 there is none, and after a number of three digits there is none.
+// Whether a digit may follow those of n: none follows a 0, and none a number of three digits.
+fn goes_on(n: u16) -> bool
+    ensures { λ r. ⌜ r ≡ goesOn n ⌝ }
+{
+    (0 < n) & (n < 100)
+}
+
+// One digit more.
 fn on_number(n: u16, byte: u8) -> Line
     ensures { λ r. ⌜ r ≡ onNumber n byte ⌝ }
 {
-    if (0 < n) & (n < 100) & is_digit(byte) {
+    if goes_on(n) & is_digit(byte) {
         return Line::Number(n * 10 + ((byte as u16) - 48));
     }
     Line::Bad

@@ -4,23 +4,33 @@ use borrow.Author.Needs.{needs}
 use Rattle.capture.proofs.bytes.on_number.Statement.{statement}
 use Rattle.capture.proofs.bytes.on_number.Tie as tie
 
+goes-on-requires : tie.Need-goes-on-requires
+goes-on-requires c κs = search needs
+
 is-digit-requires : tie.Need-is-digit-requires
 is-digit-requires c κs = search needs
 
-mul-t8 : tie.Need-mul-t8
-mul-t8 c = record { fits = omega (arith, more-range (c .before .before .args .byte) _ (c .before .is-digit .ensures) (c .before .before .args .n) (c .if1 .taken)) }
+mul-t6 : tie.Need-mul-t6
+mul-t6 c =
+    let range = more-range (c .before .before .before .args .byte) _ (c .before .is-digit .ensures) (c .before .before .before .args .n) _ (c .before .before .goes-on .ensures) (c .if1 .taken) in
+    record { fits = omega arith }
 
-sub-t10 : tie.Need-sub-t10
-sub-t10 c = omega (arith, more-range (c .before .before .args .byte) _ (c .before .is-digit .ensures) (c .before .before .args .n) (c .if1 .taken))
+sub-t8 : tie.Need-sub-t8
+sub-t8 c =
+    let range = more-range (c .before .before .before .args .byte) _ (c .before .is-digit .ensures) (c .before .before .before .args .n) _ (c .before .before .goes-on .ensures) (c .if1 .taken) in
+    omega arith
 
-add-t11 : tie.Need-add-t11
-add-t11 c = record { fits = omega (arith, more-range (c .before .before .args .byte) _ (c .before .is-digit .ensures) (c .before .before .args .n) (c .if1 .taken)) }
+add-t9 : tie.Need-add-t9
+add-t9 c =
+    let range = more-range (c .before .before .before .args .byte) _ (c .before .is-digit .ensures) (c .before .before .before .args .n) _ (c .before .before .goes-on .ensures) (c .if1 .taken) in
+    record { fits = omega arith }
 
 returns : tie.Need-returns
-returns c = more (c .before .before .args .byte) _ (c .before .is-digit .ensures) (c .before .before .args .n) (c .if1 .taken)
+returns c = more (c .before .before .before .args .byte) _ (c .before .is-digit .ensures) (c .before .before .before .args .n) _ (c .before .before .goes-on .ensures) (c .if1 .taken)
 
 returns-2 : tie.Need-returns-2
-returns-2 c = no-more (c .before .before .args .byte) _ (c .before .is-digit .ensures) (c .before .before .args .n) (c .if1 .left)
+returns-2 c = no-more (c .before .before .before .args .byte) _ (c .before .is-digit .ensures) (c .before .before .before .args .n) _ (c .before .before .goes-on .ensures) (c .if1 .left)
 
 pub on-number-spec : {M : Type 1} → statement M
-on-number-spec = tie.close (tie.spec is-digit-requires mul-t8 sub-t10 add-t11 returns returns-2)
+on-number-spec =
+    tie.close (tie.spec goes-on-requires is-digit-requires mul-t6 sub-t8 add-t9 returns returns-2)
