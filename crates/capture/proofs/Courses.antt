@@ -1,8 +1,7 @@
 -- The course of a capture: every text is a capture whose events are all done, or is refused at its first line, or at a line after events that
 -- are all done.
-use mathlib.Core.Path.{_≡_, refl, sym, ap, _∙_, subst}
-use mathlib.Core.Bool.{Bool, true, false, cond}
-use mathlib.Core.List.{List, [], _∷_, _++_, append-nil}
+use mathlib.Core.Path.{_≡_, refl, sym, _∙_, subst}
+use mathlib.Core.List.{List, [], _∷_, _++_}
 use Prim.Native.Nat.{ℕ, zero, suc, _+_, _<_, _≤_}
 use native.Mathlib.Nat.{zero-add, add-zero}
 use native.Mathlib.Omega.{arith}
@@ -11,17 +10,17 @@ use Rattle.registers.specs.State.{State}
 use Rattle.text.specs.declared.Number as numbers
 use Rattle.text.specs.declared.Number.the-variants.{Value, Malformed}
 use Rattle.text.specs.Decimal.{numberOf, decimal}
-use Rattle.text.specs.Text.{countOf, split, join}
-use Rattle.text.proofs.Joining.{Free, join-split, split-join}
+use Rattle.text.specs.Text.{split, join}
+use Rattle.text.proofs.Joining.{Free, join-split}
 use Rattle.text.proofs.Printing.{Printed, printed}
 use Rattle.text.proofs.Splitting.{split-some}
 use Rattle.engine.specs.Run.{unlessStopped}
-use Rattle.chip.specs.Promised.{Outcome, outcome, runFrom, refusalOf, accepted}
-use Rattle.capture.specs.Reading.{newline, Said, said, alsoEvent, saidBy, pinsOf, firstLine, eventLines, captureThen}
+use Rattle.chip.specs.Promised.{outcome, runFrom, refusalOf, accepted}
+use Rattle.capture.specs.Reading.{newline, alsoEvent, saidBy, pinsOf, firstLine, eventLines}
 use Rattle.capture.specs.Replay.{Replay, refusedAt, replayed, started, outcomeOf, playFrom, replayOf}
 use Rattle.capture.specs.Where.{Small, Stops, unended, no-number, refused-event, Replayed, NoFirstLine, StoppedAfter}
 use Rattle.capture.proofs.Pieces.{split-free, split-line}
-use Rattle.capture.proofs.Written.{first-free, first-read, first-written, replay-first, replay-pins}
+use Rattle.capture.proofs.Written.{first-free, first-read, first-written, replay-pins}
 
 -- ---- event lines, n events being done
 

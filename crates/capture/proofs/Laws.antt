@@ -9,11 +9,11 @@ use native.Mathlib.Nat.{zero-add}
 use native.Mathlib.Omega.{arith}
 use lib.ListN.{length, length-replicate, getD-replicate}
 use Rattle.registers.specs.State.{State, places}
-use Rattle.chip.specs.LastWriter.{LastWriter, Untouched, Written}
+use Rattle.chip.specs.LastWriter.{Untouched, Written}
 use Rattle.chip.specs.Promised.{Outcome, outcome, runOf}
 use Rattle.chip.proofs.Laws.{last-writer}
 use Rattle.capture.specs.declared.Capture.{Capture}
-use Rattle.capture.specs.Cells.{zeros, Unwritten, LastWritten, CellAfter}
+use Rattle.capture.specs.Cells.{zeros, CellAfter}
 use Rattle.capture.specs.Feeding.{Fed, fed, startOf, feedOf, feedParts, allParts, finishOf, meaning}
 use Rattle.capture.specs.Reading.{captureText}
 use Rattle.capture.specs.Replay.{refusedAt, replayed, started, outcomeOf, replayOf}

@@ -1,17 +1,16 @@
 -- Ways through the code of a line, over plain variables.
-use mathlib.Core.Path.{_≡_, refl, sym, ap, _∙_, subst}
+use mathlib.Core.Path.{_≡_, refl, sym, _∙_}
 use mathlib.Core.Bool.{Bool, true, false, cond, _&&_}
-use mathlib.Core.List.{List}
 use Prim.Native.Nat.{ℕ, _+_, _*_, _-_, _<_, _≤_}
 use borrow.Author.Tests.{leb-true, ltb-true}
 use lib.Dec.{leb, ltb}
 use Rattle.registers.specs.State.{State}
 use Rattle.registers.proofs.Below.{false-true}
 use Rattle.text.proofs.Numbers.{and-both, digit-bounds}
-use Rattle.text.specs.Decimal.{isDigit, worth}
+use Rattle.text.specs.Decimal.{isDigit}
 use Rattle.chip.specs.Promised.{After, stepOf}
 use Rattle.capture.specs.declared.Line.{Line}
-use Rattle.capture.specs.declared.Line.the-variants.{First, Pins, Empty, Number, BadFirst, Bad}
+use Rattle.capture.specs.declared.Line.the-variants.{Number, Bad}
 use Rattle.capture.specs.declared.End.{End}
 use Rattle.registers.specs.declared.Chip.{Chip}
 use Rattle.capture.specs.Feeding.{Fed, fedAs, isPins, goesOn, onNumber, joinedTo, afterAnswer, playedOn, endedLine, endOf}

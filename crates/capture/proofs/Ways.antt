@@ -1,23 +1,22 @@
 -- The other way round: a text that is written so comes to that end. And what the chip's own run says of it.
-use mathlib.Core.Path.{_≡_, refl, sym, ap, _∙_, subst}
-use mathlib.Core.Bool.{true, false}
-use mathlib.Core.List.{List, [], _∷_, _++_, append-nil}
+use mathlib.Core.Path.{_≡_, refl, ap, _∙_}
+use mathlib.Core.Bool.{true}
+use mathlib.Core.List.{List, [], _∷_, append-nil}
 use Prim.Native.Nat.{ℕ, zero, suc, _+_, _≤_}
-use native.Mathlib.Omega.{arith}
 use borrow.Author.Tests.{le-leb}
 use lib.ListN.{length}
 use Rattle.registers.specs.Record.{allowed}
 use Rattle.registers.specs.State.{State, places}
 use Rattle.text.specs.declared.Number as numbers
-use Rattle.text.specs.Text.{countOf, split}
+use Rattle.text.specs.Text.{split}
 use Rattle.text.proofs.Joining.{split-join}
 use Rattle.engine.specs.Run.{unlessStopped, runOf}
 use Rattle.engine.proofs.Refusals.{fit-entry}
-use Rattle.chip.specs.Promised.{Fit, Outcome, outcome, runFrom, refusalOf, accepted}
+use Rattle.chip.specs.Promised.{Fit, Outcome, runFrom, refusalOf, accepted}
 use Rattle.chip.specs.Runs.{continued}
 use Rattle.chip.proofs.Runs.{from-append}
-use Rattle.capture.specs.Reading.{newline, Said, said, alsoEvent, saidBy, captureText, captureThen}
-use Rattle.capture.specs.Replay.{Replay, refusedAt, replayed, started, outcomeOf, playFrom, replayOf}
+use Rattle.capture.specs.Reading.{newline, Said, alsoEvent, saidBy, captureText}
+use Rattle.capture.specs.Replay.{refusedAt, replayed, started, outcomeOf, playFrom, replayOf}
 use Rattle.capture.specs.Where.{Small, AllDone, Stops, unended, no-number, refused-event, Replayed, StoppedAfter}
 use Rattle.capture.proofs.Written.{ahead, said-line, said-event, replay-written}
 

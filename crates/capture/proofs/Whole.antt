@@ -1,7 +1,7 @@
 -- Bytes fed one by one come to what the whole text says, line by line.
-use mathlib.Core.Path.{_≡_, refl, sym, ap, _∙_, subst}
+use mathlib.Core.Path.{_≡_, refl, ap, _∙_}
 use mathlib.Core.Bool.{Bool, true, false, cond}
-use mathlib.Core.List.{List, [], _∷_, _++_, append-nil, append-assoc}
+use mathlib.Core.List.{List, [], _∷_, _++_, append-nil}
 use Prim.Native.Nat.{ℕ, zero, suc, _+_, _<_}
 use native.Mathlib.Omega.{arith}
 use lib.Dec.{eqb, ltb}
@@ -14,14 +14,14 @@ use Rattle.text.specs.Decimal.{numberOf}
 use Rattle.text.specs.Text.{split, onFirst}
 use Rattle.text.proofs.Splitting.{split-some}
 use Rattle.engine.specs.Run.{unlessStopped}
-use Rattle.chip.specs.Promised.{After, Refused, Outcome, refusalOf, accepted, stepOf, runFrom}
+use Rattle.chip.specs.Promised.{After, refusalOf, accepted, runFrom}
 use Rattle.chip.proofs.LastWriter.{counts-accepted}
 use Rattle.chip.proofs.Laws as chip
 use Rattle.chip.proofs.Refusals.{accepted-step}
 use Rattle.capture.specs.declared.Line.{Line}
 use Rattle.capture.specs.declared.Line.the-variants.{First, Pins, Empty, Number, BadFirst, Bad}
-use Rattle.capture.specs.Feeding.{Fed, fedAs, isPins, afterAnswer, playedOn, joinedTo, endedLine, fedByte, feedOf, endOf, meaning}
-use Rattle.capture.specs.Reading.{newline, word, Said, saidBy, alsoEvent, pinsOf}
+use Rattle.capture.specs.Feeding.{Fed, fedAs, isPins, afterAnswer, playedOn, joinedTo, endedLine, feedOf, endOf, meaning}
+use Rattle.capture.specs.Reading.{newline, word, Said, saidBy, alsoEvent}
 use Rattle.capture.specs.Replay.{Replay, refusedAt, started, outcomeOf, playFrom, withPins, replayLines, replayOf}
 use Rattle.capture.proofs.Answers.{answered}
 use Rattle.capture.proofs.Digits.{shown, ofNumber, join-shown}

@@ -15,7 +15,7 @@ use Rattle.text.proofs.Finding.{same-equal}
 use Rattle.text.proofs.Printing.{printed, read-back, decimal-free}
 use Rattle.text.proofs.Splitting.{split-some}
 use Rattle.capture.specs.Reading.{newline, word, asPins, pinsOf, Said, said, alsoEvent, saidBy, firstLine, eventLines, captureThen}
-use Rattle.capture.specs.Replay.{Replay, refusedAt, started, playFrom, replayLines, withPins, replayOf}
+use Rattle.capture.specs.Replay.{started, playFrom, replayLines, withPins, replayOf}
 use Rattle.capture.specs.Where.{Small}
 use Rattle.capture.proofs.Pieces.{split-line}
 

@@ -1,5 +1,5 @@
 -- A capture byte by byte: what is kept of the present line, and what a newline does. proofs/Laws.antt holds it against `replayOf`.
-use mathlib.Core.Bool.{Bool, true, false, cond, _&&_}
+use mathlib.Core.Bool.{Bool, cond, _&&_}
 use mathlib.Core.List.{List, [], _∷_, _++_}
 use Prim.Native.Nat.{ℕ, _+_, _*_, _-_}
 use lib.Dec.{eqb, leb, ltb}

@@ -1,6 +1,5 @@
 // A capture read in parts of any size, and played on a chip as it comes: document 01, "Replay listing".
 ghost use mathlib.Core.Path.{_≡_};
-ghost use lib.ListN.{length};
 ghost use Rattle.capture.specs.Feeding.{fed, startOf, feedOf, finishOf};
 use registers::Chip;
 
