@@ -1,6 +1,7 @@
 // Bytes as text: searching, fields parted by a separator, numbers. Drawing lists and captures are read with it.
 pub mod decimal;
 pub mod pieces;
+pub mod print;
 pub mod search;
 
 // What a field that should be a number says.

@@ -1,0 +1,35 @@
+-- A whole text from the start of a buffer: its length is found by writing it into a buffer that has no place, and then it is written if there is room.
+use mathlib.Core.Path.{_≡_, refl, sym, _∙_}
+use mathlib.Core.List.{List}
+use Prim.Native.Nat.{ℕ, zero, suc, _≤_, _<_}
+use native.Mathlib.Nat.{zero-add}
+use native.Mathlib.Omega.{arith}
+use borrow.Author.Tests.{le-leb, lt-leb}
+use lib.ListN.{length}
+use Rattle.text.specs.declared.print.Written.the-variants.{Text, Short, Refused}
+use Rattle.text.specs.Printed.{top, Wrote, outcome, wholeText}
+use Rattle.text.proofs.Writing.{past-fits}
+
+-- the place after a text that was written from the start on is its length
+whole-length : {l m : List ℕ} {n : ℕ} (xs : List ℕ) → length xs ≤ top → Wrote l 0 xs m n → n ≡ length xs
+whole-length xs h w = w .next ∙ past-fits 0 (length xs) (omega arith) ∙ zero-add (length xs)
+
+pub whole-short :
+    {none m : List ℕ} {n : ℕ} (xs l : List ℕ) → length xs ≤ top → Wrote none 0 xs m n → length l < n → outcome (Short n) l ≡ wholeText 0 xs l
+unfolding wholeText
+whole-short xs l h w short =
+    let same = whole-length xs h w in
+    rw (same, lt-leb (length xs) (length l) (omega arith))
+
+pub whole-written :
+    {l m : List ℕ} {n : ℕ} (xs : List ℕ) → length xs ≤ top → length xs ≤ length l → Wrote l 0 xs m n → outcome (Text n) m ≡ wholeText 0 xs l
+unfolding wholeText
+whole-written {l} xs h room w = rw (le-leb (length xs) (length l) room, whole-length xs h w, w .list)
+
+pub whole-room : {none m : List ℕ} {n : ℕ} (xs l : List ℕ) → length xs ≤ top → Wrote none 0 xs m n → n ≤ length l → length xs ≤ length l
+whole-room xs l h w room = omega (arith, whole-length xs h w)
+
+pub whole-refused : (k : ℕ) (xs l : List ℕ) → (k ≡ 0 → ⊥) → outcome (Refused k) l ≡ wholeText k xs l
+unfolding wholeText
+whole-refused zero xs l n = absurd (n refl)
+whole-refused (suc k) xs l n = refl

@@ -1,0 +1,143 @@
+-- What was written one after the other was written together, and what it is where there is room.
+use mathlib.Core.Path.{_≡_, refl, sym, ap, _∙_, subst}
+use mathlib.Core.Bool.{Bool, true, false, cond}
+use mathlib.Core.List.{List, [], _∷_, _++_}
+use Prim.Native.Nat.{ℕ, suc, _+_, _/_, _%_, _≤_, _<_}
+use native.Mathlib.Nat.{add-zero, suc-add, add-suc}
+use native.Mathlib.Omega.{arith}
+use borrow.Author.Tests.{le-leb, lt-leb, leb-true, leb-false}
+use lib.Dec.{leb}
+use lib.ListN.{length, getD, drop, set, length-append, length-set, drop-of-length-le}
+use lib.Seq.{sets, set-out, length-sets}
+use Rattle.text.specs.Decimal.{digit}
+use Rattle.text.specs.Printed.{decimalOf, top, past, Wrote}
+use Rattle.text.proofs.Digits.{decimal-one, decimal-more}
+use Rattle.text.proofs.Finding.{drop-next}
+
+-- ---- the place after n bytes
+
+pub past-fits : (i n : ℕ) → i + n ≤ top → past i n ≡ i + n
+past-fits i n h = rw (le-leb (i + n) top h)
+
+pub past-top : (i n : ℕ) → top ≤ i + n → past i n ≡ top
+past-top i n h = go (leb (i + n) top) refl
+  where
+    go : (t : Bool) → leb (i + n) top ≡ t → cond t (i + n) top ≡ top
+    go true e = omega (arith, leb-true (i + n) top e)
+    go false e = refl
+
+past-bound : (i n : ℕ) → past i n ≤ top
+past-bound i n = go (leb (i + n) top) refl
+  where
+    go : (t : Bool) → leb (i + n) top ≡ t → cond t (i + n) top ≤ top
+    go true e = leb-true (i + n) top e
+    go false e = omega arith
+
+past-past : (i n m : ℕ) → past (past i n) m ≡ past i (n + m)
+past-past i n m = go (leb (i + n) top) refl
+  where
+    go : (t : Bool) → leb (i + n) top ≡ t → past (cond t (i + n) top) m ≡ past i (n + m)
+    go true e = let same : i + n + m ≡ i + (n + m) = omega arith in rw same
+    go false e = past-top top m (omega arith) ∙ sym (past-top i (n + m) (omega (arith, leb-false (i + n) top e)))
+
+-- ---- stores
+
+pub sets-append : (l : List ℕ) (i : ℕ) (xs ys : List ℕ) → sets l i (xs ++ ys) ≡ sets (sets l i xs) (i + length xs) ys
+sets-append l i [] ys = ap (λ (k : ℕ). sets l k ys) (sym (add-zero i))
+sets-append l i (x ∷ xs) ys =
+    sets-append (set l i x) (suc i) xs ys
+    ∙ ap (λ (k : ℕ). sets (sets (set l i x) (suc i) xs) k ys) (suc-add i (length xs) ∙ sym (add-suc i (length xs)))
+
+-- past the end there is no place
+sets-out : (l : List ℕ) (i : ℕ) (xs : List ℕ) → length l ≤ i → sets l i xs ≡ l
+sets-out l i [] h = refl
+sets-out l i (x ∷ xs) h =
+    sets-out (set l i x) (suc i) xs (omega (arith, length-set l i x)) ∙ set-out l i x h
+
+sets-past : (l : List ℕ) (i n : ℕ) (xs : List ℕ) → length l ≤ top → sets l (past i n) xs ≡ sets l (i + n) xs
+sets-past l i n xs h = go (leb (i + n) top) refl
+  where
+    go : (t : Bool) → leb (i + n) top ≡ t → sets l (cond t (i + n) top) xs ≡ sets l (i + n) xs
+    go true e = refl
+    go false e = sets-out l top xs h ∙ sym (sets-out l (i + n) xs (omega (arith, leb-false (i + n) top e)))
+
+-- ---- one text after the other
+
+pub wrote-then :
+    {l m r : List ℕ} {i j k : ℕ} {xs ys : List ℕ} → length l ≤ top → Wrote l i xs m j → Wrote m j ys r k → Wrote l i (xs ++ ys) r k
+wrote-then {l} {m} {r} {i} {j} {k} {xs} {ys} h a b =
+    record {
+      list =
+          b .list
+          ∙ ap (λ (n : ℕ). sets m n ys) (a .next)
+          ∙ ap (λ (n : List ℕ). sets n (past i (length xs)) ys) (a .list)
+          ∙ sets-past (sets l i xs) i (length xs) ys (omega (arith, length-sets l i xs))
+          ∙ sym (sets-append l i xs ys);
+      next =
+          b .next
+          ∙ ap (λ (n : ℕ). past n (length ys)) (a .next)
+          ∙ past-past i (length xs) (length ys)
+          ∙ ap (λ (n : ℕ). past i n) (sym (length-append xs ys));
+    }
+
+pub wrote-length : {l m : List ℕ} {i j : ℕ} {xs : List ℕ} → Wrote l i xs m j → length m ≡ length l
+wrote-length {l} {m} {i} {j} {xs} w = ap length (w .list) ∙ length-sets l i xs
+
+pub wrote-next : {l m : List ℕ} {i j : ℕ} {xs : List ℕ} → Wrote l i xs m j → j ≤ top
+wrote-next {i = i} {xs = xs} w = omega (arith, w .next, past-bound i (length xs))
+
+pub wrote-same : {l m : List ℕ} {i j : ℕ} {xs ys : List ℕ} → xs ≡ ys → Wrote l i xs m j → Wrote l i ys m j
+wrote-same {l} {m} {i} {j} e w = subst (λ (zs : List ℕ). Wrote l i zs m j) e w
+
+-- ---- one byte
+
+pub stored-byte : (l : List ℕ) (i b : ℕ) → length l ≤ top → i < length l → Wrote l i (b ∷ []) (set l i b) (i + 1)
+stored-byte l i b t h = record { list = refl; next = sym (past-fits i 1 (omega arith)) }
+
+pub unstored-byte : (l : List ℕ) (i b j : ℕ) → length l ≤ i → j ≡ past i 1 → Wrote l i (b ∷ []) l j
+unstored-byte l i b j h e = record { list = sym (set-out l i b h); next = e }
+
+-- ---- all of a text: before byte n of s, and at its end
+
+wrote-none : (l : List ℕ) (i : ℕ) → i ≤ top → Wrote l i [] l i
+wrote-none l i h = record { list = refl; next = sym (past-fits i 0 (omega arith) ∙ add-zero i) }
+
+module _ (s : List ℕ) (n : ℕ) where
+  pub rest-turn :
+      {l m r : List ℕ} {i j k : ℕ} → n < length s → length l ≤ top → Wrote l i (getD s n 0 ∷ []) m j → Wrote m j (drop (n + 1) s) r k
+      → Wrote l i (drop n s) r k
+  rest-turn h t a b = wrote-same (sym (drop-next s n h)) (wrote-then t a b)
+
+  pub rest-none : (l : List ℕ) (i : ℕ) → i ≤ top → length s ≤ n → Wrote l i (drop n s) l i
+  rest-none l i t h = wrote-same (sym (drop-of-length-le s h)) (wrote-none l i t)
+
+-- ---- a number
+
+module _ (n : ℕ) where
+  pub number-one : {l m : List ℕ} {i j : ℕ} → n < 10 → Wrote l i (digit n ∷ []) m j → Wrote l i (decimalOf n) m j
+  number-one h w = wrote-same (sym (decimal-one n h)) w
+
+  pub number-more :
+      {l m r : List ℕ} {i j k : ℕ} → 10 ≤ n → length l ≤ top → Wrote l i (decimalOf (n / 10)) m j → Wrote m j (digit (n % 10) ∷ []) r k
+      → Wrote l i (decimalOf n) r k
+  number-more h t a b = wrote-same (sym (decimal-more n h)) (wrote-then t a b)
+
+-- n + k, with k carried into the tens
+module _ (n k : ℕ) where
+  pub sum-one : {l m : List ℕ} {i j : ℕ} → n / 10 + (n % 10 + k) / 10 ≡ 0 → Wrote l i (digit (n % 10 + k) ∷ []) m j → Wrote l i (decimalOf (n + k)) m j
+  sum-one z w = let same : n % 10 + k ≡ n + k = omega arith in number-one (n + k) (omega arith) (rw same at w)
+
+  pub sum-more :
+      {l m r : List ℕ} {i j q : ℕ} → (n / 10 + (n % 10 + k) / 10 ≡ 0 → ⊥) → length l ≤ top
+      → Wrote l i (decimalOf (n / 10 + (n % 10 + k) / 10)) m j → Wrote m j (digit ((n % 10 + k) % 10) ∷ []) r q
+      → Wrote l i (decimalOf (n + k)) r q
+  sum-more z t a b =
+      let front : n / 10 + (n % 10 + k) / 10 ≡ (n + k) / 10 = omega arith in
+      let last : (n % 10 + k) % 10 ≡ (n + k) % 10 = omega arith in
+      number-more (n + k) (omega arith) t (rw front at a) (rw last at b)
+
+-- ---- a text at a place with room for it
+
+pub wrote-room :
+    {l m : List ℕ} {i j : ℕ} {xs : List ℕ} → i + length xs ≤ length l → length l ≤ top → Wrote l i xs m j → (m ≡ sets l i xs) × (j ≡ i + length xs)
+wrote-room {i = i} {xs = xs} h t w = (w .list, w .next ∙ past-fits i (length xs) (omega arith))

@@ -1,0 +1,88 @@
+-- Numbers of any size in decimal, and text written into a buffer.
+use mathlib.Core.Bool.{Bool, true, false, cond, _&&_}
+use mathlib.Core.List.{List, [], _∷_, _++_}
+use mathlib.Core.Path.{_≡_}
+use Prim.Native.Nat.{ℕ, zero, suc, _+_, _*_, _/_, _%_, _-_, _^_}
+use lib.Dec.{leb, ltb}
+use lib.ListN.{length}
+use lib.Seq.{sets}
+use Rattle.text.specs.declared.print.Written.{Written}
+use Rattle.text.specs.declared.print.Written.the-variants.{Text, Short, Refused}
+use Rattle.text.specs.Decimal.{isDigit, isLeading, worth, digit}
+
+-- ---- the digits of a number
+
+-- the digits of n, which has f or fewer: those of n / 10, then n % 10
+abbrev pub digitsUpTo : ℕ → ℕ → List ℕ
+digitsUpTo zero n = []
+digitsUpTo (suc f) n =
+    let more : List ℕ = digitsUpTo f (n / 10) ++ (digit (n % 10) ∷ []) in
+    cond (ltb n 10) (digit n ∷ []) more
+
+-- n has n + 1 digits or fewer
+unfoldable pub decimalOf : ℕ → List ℕ
+decimalOf n = digitsUpTo (suc n) n
+
+-- ---- which digits those are, told without them
+
+abbrev pub allDigits : List ℕ → Bool
+allDigits [] = true
+allDigits (d ∷ ds) = isDigit d && allDigits ds
+
+-- what the digits are worth after the number m
+abbrev pub worthAfter : ℕ → List ℕ → ℕ
+worthAfter m [] = m
+worthAfter m (d ∷ ds) = worthAfter (m * 10 + worth d) ds
+
+-- one digit, or several with no zero in front
+abbrev pub wellLed : List ℕ → Bool
+wellLed [] = false
+wellLed (d ∷ []) = true
+wellLed (d ∷ e ∷ ds) = isLeading d
+
+pub record Spells (ds : List ℕ) (n : ℕ) : Type 0 where
+  pub digits : allDigits ds ≡ true
+  pub well-led : wellLed ds ≡ true
+  pub value : worthAfter 0 ds ≡ n
+
+-- ---- text at a place of a buffer
+
+-- the largest place that a machine word can say
+abbrev pub top : ℕ
+top = 2 ^ 64 - 1
+
+-- the place after n bytes from place i on
+abbrev pub past : ℕ → ℕ → ℕ
+past i n = cond (leb (i + n) top) (i + n) top
+
+-- the bytes xs were stored into l from place i on, those that l has places for, which left m; the place after all of them is j
+pub record Wrote (l : List ℕ) (i : ℕ) (xs : List ℕ) (m : List ℕ) (j : ℕ) : Type 0 where
+  pub list : m ≡ sets l i xs
+  pub next : j ≡ past i (length xs)
+
+-- ---- a whole text
+
+-- document 01's number for the answer: 10 is an output shorter than needed, 0 none
+abbrev pub writtenNumber : Written → ℕ
+writtenNumber (Text n) = 0
+writtenNumber (Short n) = 10
+writtenNumber (Refused k) = k
+
+-- how long the text is; nothing is known of a refused one
+abbrev pub writtenLength : Written → ℕ
+writtenLength (Text n) = n
+writtenLength (Short n) = n
+writtenLength (Refused k) = 0
+
+-- the answer, and the buffer
+pub record Outcome : Type 0 where
+  pub answer : Written
+  pub out : List ℕ
+
+abbrev pub outcome : Written → List ℕ → Outcome
+outcome a l = record { answer = a; out = l }
+
+-- the text xs into l from its start on; nothing is changed where it has no room, or where the refusal k is not 0
+unfoldable pub wholeText : ℕ → List ℕ → List ℕ → Outcome
+wholeText zero xs l = cond (leb (length xs) (length l)) (outcome (Text (length xs)) (sets l 0 xs)) (outcome (Short (length xs)) l)
+wholeText (suc k) xs l = outcome (Refused (suc k)) l
