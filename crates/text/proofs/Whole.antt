@@ -1,5 +1,5 @@
 -- A whole text from the start of a buffer: its length is found by writing it into a buffer that has no place, and then it is written if there is room.
-use mathlib.Core.Path.{_≡_, refl, sym, _∙_}
+use mathlib.Core.Path.{_≡_, refl, sym, ap, _∙_}
 use mathlib.Core.List.{List}
 use Prim.Native.Nat.{ℕ, zero, suc, _≤_, _<_}
 use native.Mathlib.Nat.{zero-add}
@@ -7,7 +7,7 @@ use native.Mathlib.Omega.{arith}
 use borrow.Author.Tests.{le-leb, lt-leb}
 use lib.ListN.{length}
 use Rattle.text.specs.declared.print.Written.the-variants.{Text, Short, Refused}
-use Rattle.text.specs.Printed.{top, Wrote, outcome, wholeText}
+use Rattle.text.specs.Printed.{top, Wrote, Outcome, outcome, wholeText}
 use Rattle.text.proofs.Writing.{past-fits}
 
 -- the place after a text that was written from the start on is its length
@@ -29,7 +29,11 @@ whole-written {l} xs h room w = rw (le-leb (length xs) (length l) room, whole-le
 pub whole-room : {none m : List ℕ} {n : ℕ} (xs l : List ℕ) → length xs ≤ top → Wrote none 0 xs m n → n ≤ length l → length xs ≤ length l
 whole-room xs l h w room = omega (arith, whole-length xs h w)
 
-pub whole-refused : (k : ℕ) (xs l : List ℕ) → (k ≡ 0 → ⊥) → outcome (Refused k) l ≡ wholeText k xs l
+-- x is what the code found, k what the definition says
+pub whole-refused : (x k : ℕ) (xs l : List ℕ) → x ≡ k → (x ≡ 0 → ⊥) → outcome (Refused x) l ≡ wholeText k xs l
 unfolding wholeText
-whole-refused zero xs l n = absurd (n refl)
-whole-refused (suc k) xs l n = refl
+whole-refused zero k xs l e n = absurd (n refl)
+whole-refused (suc x) k xs l e n = rw (← e)
+
+pub whole-passed : (x k : ℕ) (xs l : List ℕ) {o : Outcome} → x ≡ k → x ≡ 0 → o ≡ wholeText 0 xs l → o ≡ wholeText k xs l
+whole-passed x k xs l e z w = w ∙ ap (λ (n : ℕ). wholeText n xs l) (sym z ∙ e)

@@ -99,7 +99,7 @@ unstored-byte l i b j h e = record { list = sym (set-out l i b h); next = e }
 
 -- ---- all of a text: before byte n of s, and at its end
 
-wrote-none : (l : List ℕ) (i : ℕ) → i ≤ top → Wrote l i [] l i
+pub wrote-none : (l : List ℕ) (i : ℕ) → i ≤ top → Wrote l i [] l i
 wrote-none l i h = record { list = refl; next = sym (past-fits i 0 (omega arith) ∙ add-zero i) }
 
 module _ (s : List ℕ) (n : ℕ) where

@@ -1,0 +1,42 @@
+use native.Mathlib.Omega.{arith}
+use Rattle.listing.proofs.Lines.{wrote-no-row, wrote-row}
+use borrow.Author.Needs.{needs}
+use Rattle.listing.proofs.cell_at.Statement.{statement}
+use Rattle.listing.proofs.cell_at.Tie as tie
+
+mul-event : tie.Need-mul-event
+mul-event c = search needs
+
+shared-slice-read-event : tie.Need-shared-slice-read-event
+shared-slice-read-event c = search needs
+
+returns : tie.Need-returns
+returns c = wrote-no-row (c .before .before .before .before .before .args .memory .now) (c .before .before .before .before .before .args .writers .now) _ _ _ (omega arith) (c .if1 .taken)
+
+shared-slice-read-cell : tie.Need-shared-slice-read-cell
+shared-slice-read-cell c = search needs
+
+cast-cell : tie.Need-cast-cell
+cast-cell c = omega (arith, c .shared-slice-known4 .given (c .before .before .before .before .before .before .args .k))
+
+cell-requires : tie.Need-cell-requires
+cell-requires c κs = search needs
+
+same-length : tie.Need-same-length
+same-length c = search needs
+
+returns-2 : tie.Need-returns-2
+returns-2 c = wrote-row (c .before .before .before .before .before .before .before .before .before .before .args .memory .now) (c .before .before .before .before .before .before .before .before .before .before .args .writers .now) _ (c .before .before .before .before .before .if1 .left) (c .before .before .cell .ensures)
+
+pub cell-at-spec : {M : Type 1} → statement M
+cell-at-spec =
+    tie.close
+    (tie.spec
+    mul-event
+    shared-slice-read-event
+    returns
+    shared-slice-read-cell
+    cast-cell
+    cell-requires
+    same-length
+    returns-2)

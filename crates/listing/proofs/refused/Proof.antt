@@ -1,0 +1,38 @@
+use Prim.Native.Nat.{_+_}
+use native.Mathlib.Omega.{arith}
+use Rattle.text.proofs.Whole.{whole-short, whole-written, whole-room}
+use Rattle.listing.proofs.Lines.{refused-bound}
+use borrow.Author.Needs.{needs}
+use Rattle.listing.proofs.refused.Statement.{statement}
+use Rattle.listing.proofs.refused.Tie as tie
+
+slice-aggregate-refused-line : tie.Need-slice-aggregate-refused-line
+slice-aggregate-refused-line c = search needs
+
+refused-line-requires : tie.Need-refused-line-requires
+refused-line-requires c κs = search needs
+
+returns : tie.Need-returns
+returns c = whole-short _ _ (omega (arith, refused-bound (c .before .before .before .before .before .args .n + c .before .before .before .before .before .args .k) (omega arith))) (c .before .before .refused-line .ensures) (c .if1 .taken)
+
+refused-line-requires-2 : tie.Need-refused-line-requires-2
+refused-line-requires-2 c κs = search needs
+
+same-length : tie.Need-same-length
+same-length c = search needs
+
+returns-2 : tie.Need-returns-2
+returns-2 c =
+    let bound = refused-bound (c .before .before .before .before .before .before .before .before .before .args .n + c .before .before .before .before .before .before .before .before .before .args .k) (omega arith) in
+    whole-written _ (omega arith) (whole-room _ (c .before .before .before .before .before .before .before .before .before .args .out .now) (omega arith) (c .before .before .before .before .before .before .refused-line .ensures) (c .before .before .before .before .if1 .left)) (c .before .before .refused-line2 .ensures)
+
+pub refused-spec : {M : Type 1} → statement M
+refused-spec =
+    tie.close
+    (tie.spec
+    slice-aggregate-refused-line
+    refused-line-requires
+    returns
+    refused-line-requires-2
+    same-length
+    returns-2)

@@ -1,0 +1,110 @@
+// The replay listing: the cells that have a writer, by bank, then column; and the line that says where a capture is bad.
+ghost use mathlib.Core.List.{[], _∷_, _++_};
+ghost use mathlib.Core.Path.{_≡_};
+ghost use Prim.Native.Nat.{_+_, _<_};
+ghost use lib.ListN.{length};
+ghost use Rattle.registers.specs.State.{places};
+ghost use Rattle.text.specs.Printed.{decimalOf, Wrote, outcome, wholeText};
+ghost use Rattle.listing.specs.Listing.{row, rowAt, rowText, rowsText, listingOf, refusedOf, listingRefusal};
+use text::print::Written;
+
+const TAB: u8 = 9;
+
+const NEWLINE: u8 = 10;
+
+// A number and what parts it from the next.
+fn field(n: u64, end: u8, out: &mut [u8], at: usize) -> usize
+    ensures { λ r. ⌜ Wrote (now (out .entry)) at (decimalOf n ++ end ∷ []) (now (out .exit)) r ⌝ }
+{
+    let next = text::print::decimal(n, out, at);
+    text::print::byte(end, out, next)
+}
+
+// One cell's line.
+fn cell(column: u64, bank: u64, byte: u64, event: u64, out: &mut [u8], at: usize) -> usize
+    ensures { λ r. ⌜ Wrote (now (out .entry)) at (rowText (row column bank byte event)) (now (out .exit)) r ⌝ }
+{
+    let columns = field(column, TAB, out, at);
+    let banks = field(bank, TAB, out, columns);
+    let bytes = field(byte, TAB, out, banks);
+    field(event, NEWLINE, out, bytes)
+}
+
+// The line of place k, if the cell there has a writer.
+fn cell_at(memory: &[u8], writers: &[u64], k: usize, out: &mut [u8], at: usize) -> usize
+    requires { ⌜ (k < length (now memory)) × (k < length (now writers)) ⌝ }
+    ensures { λ r. ⌜ Wrote (now (out .entry)) at (rowsText (rowAt (now (memory .entry)) (now (writers .entry)) k)) (now (out .exit)) r ⌝ }
+{
+    let event = writers[k];
+    if event == 0 {
+        return at;
+    }
+    cell(
+        (k % 101) as u64,
+        (k / 101) as u64,
+        memory[k] as u64,
+        event,
+        out,
+        at,
+    )
+}
+
+// The whole text. Places rise bank by bank, and in a bank column by column.
+fn cells(memory: &[u8], writers: &[u64], out: &mut [u8]) -> usize
+    requires { ⌜ (length (now memory) ≡ places) × (length (now writers) ≡ places) ⌝ }
+    ensures { λ r. ⌜ Wrote (now (out .entry)) 0 (listingOf (now (memory .entry)) (now (writers .entry))) (now (out .exit)) r ⌝ }
+{
+    let mut at = text::print::bytes(b"column\tbank\tbyte\tevent\n", out, 0);
+    let mut k = 0;
+    while k < 1717 {
+        at = cell_at(memory, writers, k, out, at);
+        k += 1;
+    }
+    at
+}
+
+// 1: a lent memory of another length; 0 is none.
+fn refusal(memory_len: usize, writers_len: usize) -> u8
+    ensures { λ r. ⌜ r ≡ listingRefusal «memory_len» «writers_len» ⌝ }
+{
+    if memory_len != 1717 {
+        return 1;
+    }
+    if writers_len != 1717 { 1 } else { 0 }
+}
+
+// The listing of these memories, from the start of `out` on.
+pub fn listing(memory: &[u8], writers: &[u64], out: &mut [u8]) -> Written
+    ensures { λ r. ⌜ outcome r (now (out .exit)) ≡ wholeText (listingRefusal (length (now (memory .entry))) (length (now (writers .entry)))) (listingOf (now (memory .entry)) (now (writers .entry))) (now (out .entry)) ⌝ }
+{
+    let refused = refusal(memory.len(), writers.len());
+    if refused != 0 {
+        return Written::Refused(refused);
+    }
+    let mut none = [0u8; 0];
+    let needed = cells(memory, writers, &mut none);
+    if out.len() < needed {
+        return Written::Short(needed);
+    }
+    Written::Text(cells(memory, writers, out))
+}
+
+fn refused_line(n: u64, k: u8, out: &mut [u8]) -> usize
+    ensures { λ r. ⌜ Wrote (now (out .entry)) 0 (refusedOf (n + k)) (now (out .exit)) r ⌝ }
+{
+    let word = text::print::bytes(b"refused\t", out, 0);
+    let number = text::print::decimal_plus(n, k, out, word);
+    text::print::byte(NEWLINE, out, number)
+}
+
+// The line of a capture that is bad at line n + k, which may be past the largest u64: a capture's event n, from 0, stands in line n + 2.
+pub fn refused(n: u64, k: u8, out: &mut [u8]) -> Written
+    ensures { λ r. ⌜ outcome r (now (out .exit)) ≡ wholeText 0 (refusedOf (n + k)) (now (out .entry)) ⌝ }
+{
+    let mut none = [0u8; 0];
+    let needed = refused_line(n, k, &mut none);
+    if out.len() < needed {
+        return Written::Short(needed);
+    }
+    Written::Text(refused_line(n, k, out))
+}
