@@ -1,2 +1,4 @@
 pub mod Lines
 pub mod Refusals
+pub mod Rows
+pub mod Laws

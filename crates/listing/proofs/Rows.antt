@@ -1,0 +1,97 @@
+-- The rows of the listing, place by place.
+use mathlib.Core.Path.{_≡_, refl, sym, ap, subst}
+use mathlib.Core.Bool.{Bool, true, false, cond}
+use mathlib.Core.List.{List, [], _∷_, _++_, List·Memᴰ, List·Memᴰ·head, List·Memᴰ·append-cases, List·Memᴰ·not-nil, List·Memᴰ·eq-of-singleton, Memᴰ·append-left, Memᴰ·append-right}
+use mathlib.Core.Logic.{inl, inr, ⊎-elim}
+use Prim.Native.Nat.{ℕ, zero, suc, _+_, _*_, _/_, _%_, _≤_, _<_}
+use native.Mathlib.Decide.{decLt}
+use native.Mathlib.Omega.{arith}
+use borrow.Author.Tests.{ne-eqb, eqb-false}
+use lib.Dec.{eqb}
+use lib.ListN.{getD}
+use Rattle.listing.specs.Listing.{Row, row, rowAt, rowsFrom}
+use Rattle.listing.specs.Order.{Listed, Before, InOrder}
+
+-- the row that place p would have
+abbrev pub rowOf : List ℕ → List ℕ → ℕ → Row
+rowOf memory writers p = row (p % 101) (p / 101) (getD memory p 0) (getD writers p 0)
+
+-- r is the row of a place p from `first` on and below `end`, which has a writer
+pub record From (memory writers : List ℕ) (first end : ℕ) (r : Row) : Type 0 where
+  pub place : ℕ
+  pub low : first ≤ place
+  pub high : place < end
+  pub written : getD writers place 0 ≡ 0 → ⊥
+  pub same : r ≡ rowOf memory writers place
+
+module _ (memory writers : List ℕ) where
+  in-row : (k : ℕ) (r : Row) → List·Memᴰ r (rowAt memory writers k) → From memory writers k (k + 1) r
+  in-row k r = go (eqb (getD writers k 0) 0) refl
+    where
+      go : (t : Bool) → eqb (getD writers k 0) 0 ≡ t → List·Memᴰ r (cond t [] (rowOf memory writers k ∷ [])) → From memory writers k (k + 1) r
+      go true e m = absurd (List·Memᴰ·not-nil m)
+      go false e m =
+          record { place = k; low = omega arith; high = omega arith; written = eqb-false (getD writers k 0) 0 e; same = List·Memᴰ·eq-of-singleton m }
+
+  pub in-rows : (n k : ℕ) (r : Row) → List·Memᴰ r (rowsFrom memory writers k n) → From memory writers k (k + n) r
+  in-rows zero k r m = absurd (List·Memᴰ·not-nil m)
+  in-rows (suc n) k r m = ⊎-elim (λ here. widen (in-row k r here)) (λ later. later-on (in-rows n (k + 1) r later)) (List·Memᴰ·append-cases (rowAt memory writers k) m)
+    where
+      widen : From memory writers k (k + 1) r → From memory writers k (k + suc n) r
+      widen f = record { place = f .place; low = f .low; high = omega (arith, f .high); written = f .written; same = f .same }
+
+      later-on : From memory writers (k + 1) (k + 1 + n) r → From memory writers k (k + suc n) r
+      later-on f = record { place = f .place; low = omega (arith, f .low); high = omega (arith, f .high); written = f .written; same = f .same }
+
+  pub rows-have : (n k p : ℕ) → k ≤ p → p < k + n → (getD writers p 0 ≡ 0 → ⊥) → List·Memᴰ (rowOf memory writers p) (rowsFrom memory writers k n)
+  rows-have zero k p l h w = absurd (omega arith)
+  rows-have (suc n) k p l h w = go (decLt k p) (rows-have n (k + 1) p)
+    where
+      here : (q : ℕ) → (getD writers q 0 ≡ 0 → ⊥) → List·Memᴰ (rowOf memory writers q) (rowAt memory writers q)
+      here q u = rw (ne-eqb (getD writers q 0) 0 u) (List·Memᴰ·head refl)
+
+      go : Dec (k < p) → (k + 1 ≤ p → p < k + 1 + n → (getD writers p 0 ≡ 0 → ⊥) → List·Memᴰ (rowOf memory writers p) (rowsFrom memory writers (k + 1) n)) → List·Memᴰ (rowOf memory writers p) (rowAt memory writers k ++ rowsFrom memory writers (k + 1) n)
+      go (yes s) rest = Memᴰ·append-right (rowAt memory writers k) (rest (omega arith) (omega arith) w)
+      go (no s) rest =
+          let same : p ≡ k = omega arith in
+          Memᴰ·append-left (rowsFrom memory writers (k + 1) n) (subst (λ (q : ℕ). List·Memᴰ (rowOf memory writers p) (rowAt memory writers q)) same (here p w))
+
+  -- ---- in order
+
+  before : (k p : ℕ) → k < p → Before (rowOf memory writers k) (rowOf memory writers p)
+  before k p h = go (decLt (k / 101) (p / 101))
+    where
+      go : Dec (k / 101 < p / 101) → Before (rowOf memory writers k) (rowOf memory writers p)
+      go (yes l) = inl l
+      go (no m) = inr (omega arith, omega arith)
+
+  pub in-order : (n k : ℕ) → InOrder (rowsFrom memory writers k n)
+  in-order zero k = tt
+  in-order (suc n) k = go (eqb (getD writers k 0) 0) (in-order n (k + 1))
+    where
+      go : (t : Bool) → InOrder (rowsFrom memory writers (k + 1) n) → InOrder (cond t [] (rowOf memory writers k ∷ []) ++ rowsFrom memory writers (k + 1) n)
+      go true rest = rest
+      go false rest =
+          (λ s m. (let f = in-rows n (k + 1) s m in subst (λ (q : Row). Before (rowOf memory writers k) q) (sym (f .same)) (before k (f .place) (omega (arith, f .low)))), rest)
+
+  -- ---- which are listed
+
+  pub from-listed : (end : ℕ) (r : Row) → end ≡ 1717 → From memory writers 0 end r → Listed memory writers r
+  from-listed end r e f = subst (λ (q : Row). Listed memory writers q) (sym (f .same)) (go (f .place) (omega (arith, f .high)) (f .written))
+    where
+      go : (p : ℕ) → p < 1717 → (getD writers p 0 ≡ 0 → ⊥) → Listed memory writers (rowOf memory writers p)
+      go p h w =
+          let place : 101 * (p / 101) + p % 101 ≡ p = omega arith in
+          record {
+            column-there = omega arith;
+            bank-there = omega arith;
+            written = w;
+            writer = ap (λ (q : ℕ). getD writers q 0) place;
+            stored = ap (λ (q : ℕ). getD memory q 0) place;
+          }
+
+  pub listed-row : (r : Row) → Listed memory writers r → rowOf memory writers (101 * r .bank + r .column) ≡ r
+  listed-row r h =
+      let column : (101 * r .bank + r .column) % 101 ≡ r .column = omega (arith, h .column-there) in
+      let bank : (101 * r .bank + r .column) / 101 ≡ r .bank = omega (arith, h .column-there) in
+      rw (column, bank, h .writer, h .stored)
