@@ -2,16 +2,16 @@
 use mathlib.Core.Path.{_≡_, refl, sym, ap, _∙_}
 use mathlib.Core.Bool.{Bool, true, false, cond}
 use mathlib.Core.List.{List, [], _∷_, _++_, append-assoc, append-nil}
-use Prim.Native.Nat.{ℕ, zero, suc, _+_, _*_, _-_, _/_, _%_, _^_, _≤_, _<_}
+use Prim.Native.Nat.{ℕ, zero, suc, _+_, _/_, _%_, _^_, _≤_, _<_}
 use native.Mathlib.Omega.{arith}
 use borrow.Author.Tests.{eq-eqb, ne-eqb}
 use lib.Dec.{eqb}
 use lib.ListN.{length, getD, length-append}
 use Rattle.registers.specs.State.{places}
 use Rattle.text.specs.Text.{bytes}
-use Rattle.text.specs.Printed.{decimalOf, top, Wrote}
+use Rattle.text.specs.Printed.{decimalOf, top, Wrote, partsFrom}
 use Rattle.text.proofs.Digits.{decimal-bound}
-use Rattle.text.proofs.Writing.{wrote-then, wrote-same, wrote-none}
+use Rattle.text.proofs.Writing.{wrote-then, wrote-same, wrote-none, parts-bound}
 use Rattle.listing.specs.Listing.{Row, row, rowAt, rowsFrom, rowsOf, header, rowText, rowsText, listingOf, refusedOf}
 
 -- ---- one line
@@ -51,37 +51,30 @@ module _ (memory writers : List ℕ) (k : ℕ) where
       → Wrote l i (rowsText (rowAt memory writers k)) m j
   wrote-row n w = wrote-same (sym (ap rowsText (a-row n) ∙ append-nil _)) w
 
--- ---- the lines from a place on
+-- ---- all of them
 
 rows-append : (xs ys : List Row) → rowsText (xs ++ ys) ≡ rowsText xs ++ rowsText ys
 rows-append [] ys = refl
 rows-append (x ∷ xs) ys = rw (rows-append xs ys) (sym (append-assoc (rowText x) (rowsText xs) (rowsText ys)))
 
--- those from place k to the last
-abbrev pub rowsRest : List ℕ → List ℕ → ℕ → List Row
-rowsRest memory writers k = rowsFrom memory writers k (places - k)
+-- what place k adds to the listing
+abbrev pub lineAt : List ℕ → List ℕ → ℕ → List ℕ
+lineAt memory writers k = rowsText (rowAt memory writers k)
 
-module _ (memory writers : List ℕ) (k : ℕ) where
-  rest-next : k < places → rowsRest memory writers k ≡ rowAt memory writers k ++ rowsRest memory writers (k + 1)
-  rest-next h = let more : places - k ≡ suc (places - (k + 1)) = omega arith in ap (λ (n : ℕ). rowsFrom memory writers k n) more
+module _ (memory writers : List ℕ) where
+  rows-parts : (n k : ℕ) → partsFrom (lineAt memory writers) k n ≡ rowsText (rowsFrom memory writers k n)
+  rows-parts zero k = refl
+  rows-parts (suc n) k =
+      ap (λ (l : List ℕ). lineAt memory writers k ++ l) (rows-parts n (k + 1)) ∙ sym (rows-append (rowAt memory writers k) (rowsFrom memory writers (k + 1) n))
 
-  pub rows-turn :
-      {l m r : List ℕ} {i j e : ℕ} → k < places → length l ≤ top
-      → Wrote l i (rowsText (rowAt memory writers k)) m j → Wrote m j (rowsText (rowsRest memory writers (k + 1))) r e
-      → Wrote l i (rowsText (rowsRest memory writers k)) r e
-  rows-turn h t a b =
-      wrote-same (sym (ap rowsText (rest-next h) ∙ rows-append (rowAt memory writers k) (rowsRest memory writers (k + 1)))) (wrote-then t a b)
+  listing-parts : header ++ partsFrom (lineAt memory writers) 0 places ≡ listingOf memory writers
+  unfolding listingOf rowsOf
+  listing-parts = ap (λ (l : List ℕ). header ++ l) (rows-parts places 0)
 
-  pub rows-end : (l : List ℕ) (i : ℕ) → i ≤ top → places ≤ k → Wrote l i (rowsText (rowsRest memory writers k)) l i
-  rows-end l i t h =
-      let none : places - k ≡ 0 = omega arith in
-      wrote-same (sym (ap (λ (n : ℕ). rowsText (rowsFrom memory writers k n)) none)) (wrote-none l i t)
-
-pub listing-wrote :
-    {l m r : List ℕ} {i j : ℕ} (memory writers : List ℕ) → length l ≤ top
-    → Wrote l 0 header m i → Wrote m i (rowsText (rowsRest memory writers 0)) r j → Wrote l 0 (listingOf memory writers) r j
-unfolding listingOf rowsOf
-listing-wrote memory writers t a b = wrote-then t a b
+  pub listing-wrote :
+      {l m r : List ℕ} {i j : ℕ} → length l ≤ top → Wrote l 0 header m i → Wrote m i (partsFrom (lineAt memory writers) 0 places) r j
+      → Wrote l 0 (listingOf memory writers) r j
+  listing-wrote t a b = wrote-same listing-parts (wrote-then t a b)
 
 -- ---- the refused line
 
@@ -111,8 +104,8 @@ row-bound c b v n hc hb hv hn =
     )
 
 module _ (memory writers : List ℕ) (hm : Bounded (2 ^ 8) memory) (hw : Bounded (2 ^ 64) writers) where
-  at-bound : (k : ℕ) → k < places → length (rowsText (rowAt memory writers k)) ≤ 32
-  at-bound k h = go (eqb (getD writers k 0) 0)
+  line-bound : (k : ℕ) → k < places → length (lineAt memory writers k) ≤ 32
+  line-bound k h = go (eqb (getD writers k 0) 0)
     where
       go : (t : Bool) → length (rowsText (cond t [] (row (k % 101) (k / 101) (getD memory k 0) (getD writers k 0) ∷ []))) ≤ 32
       go true = omega arith
@@ -120,24 +113,17 @@ module _ (memory writers : List ℕ) (hm : Bounded (2 ^ 8) memory) (hw : Bounded
           rw (append-nil (rowText (row (k % 101) (k / 101) (getD memory k 0) (getD writers k 0))))
           (row-bound (k % 101) (k / 101) (getD memory k 0) (getD writers k 0) (omega arith) (omega arith) (omega (arith, hm k)) (omega (arith, hw k)))
 
-  rows-bound : (n k : ℕ) → k + n ≤ places → length (rowsText (rowsFrom memory writers k n)) ≤ 32 * n
-  rows-bound zero k h = omega arith
-  rows-bound (suc n) k h =
-      rw (rows-append (rowAt memory writers k) (rowsFrom memory writers (k + 1) n))
-      (omega (
-        arith,
-        length-append (rowsText (rowAt memory writers k)) (rowsText (rowsFrom memory writers (k + 1) n)),
-        at-bound k (omega arith),
-        rows-bound n (k + 1) (omega arith),
-      ))
-
   -- the header's 23 bytes, and 32 for each cell: three digits of column, two of bank, three of the byte and twenty of the event
   pub listing-bound : length (listingOf memory writers) ≤ 54967
-  unfolding listingOf rowsOf
-  listing-bound = go places refl
+  listing-bound = rw (← listing-parts memory writers) (go places refl)
     where
-      go : (n : ℕ) → n ≡ places → length (header ++ rowsText (rowsFrom memory writers 0 n)) ≤ 54967
-      go n e = omega (arith, length-append header (rowsText (rowsFrom memory writers 0 n)), rows-bound n 0 (omega arith))
+      go : (n : ℕ) → n ≡ places → length (header ++ partsFrom (lineAt memory writers) 0 n) ≤ 54967
+      go n e =
+          omega (
+            arith,
+            length-append header (partsFrom (lineAt memory writers) 0 n),
+            parts-bound (lineAt memory writers) 32 places line-bound n 0 (omega arith),
+          )
 
 pub refused-bound : (n : ℕ) → n < 10 ^ 20 → length (refusedOf n) ≤ 29
 unfolding refusedOf

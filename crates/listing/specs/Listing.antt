@@ -3,10 +3,10 @@ use mathlib.Core.Bool.{cond}
 use mathlib.Core.List.{List, [], _∷_, _++_}
 use Prim.Native.Nat.{ℕ, zero, suc, _+_, _/_, _%_}
 use lib.Dec.{eqb}
-use lib.ListN.{getD}
+use lib.ListN.{length, getD}
 use Rattle.registers.specs.State.{places}
 use Rattle.text.specs.Text.{bytes, join}
-use Rattle.text.specs.Printed.{decimalOf}
+use Rattle.text.specs.Printed.{decimalOf, Outcome, wholeText}
 
 -- ---- the cells
 
@@ -56,9 +56,17 @@ listingOf memory writers = header ++ rowsText (rowsOf memory writers)
 unfoldable pub refusedOf : ℕ → List ℕ
 refusedOf n = line (bytes "refused" ∷ decimalOf n ∷ [])
 
--- ---- 1: a lent memory of another length; 0 is none
+-- ---- the calls: the answer, and the buffer
+
+-- 1: a lent memory of another length; 0 is none
 unfoldable pub listingRefusal : ℕ → ℕ → ℕ
 listingRefusal memoryLength writersLength =
     cond (eqb memoryLength places)
     (cond (eqb writersLength places) 0 1)
     1
+
+abbrev pub listingCall : List ℕ → List ℕ → List ℕ → Outcome
+listingCall memory writers out = wholeText (listingRefusal (length memory) (length writers)) (listingOf memory writers) out
+
+abbrev pub refusedCall : ℕ → List ℕ → Outcome
+refusedCall n out = wholeText 0 (refusedOf n) out

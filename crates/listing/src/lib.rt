@@ -4,8 +4,8 @@ ghost use mathlib.Core.Path.{_≡_};
 ghost use Prim.Native.Nat.{_+_, _<_};
 ghost use lib.ListN.{length};
 ghost use Rattle.registers.specs.State.{places};
-ghost use Rattle.text.specs.Printed.{decimalOf, Wrote, outcome, wholeText};
-ghost use Rattle.listing.specs.Listing.{row, rowAt, rowText, rowsText, listingOf, refusedOf, listingRefusal};
+ghost use Rattle.text.specs.Printed.{decimalOf, Wrote, outcome};
+ghost use Rattle.listing.specs.Listing.{row, rowAt, rowText, rowsText, listingOf, refusedOf, listingRefusal, listingCall, refusedCall};
 use text::print::Written;
 
 const TAB: u8 = 9;
@@ -75,7 +75,7 @@ fn refusal(memory_len: usize, writers_len: usize) -> u8
 
 // The listing of these memories, from the start of `out` on.
 pub fn listing(memory: &[u8], writers: &[u64], out: &mut [u8]) -> Written
-    ensures { λ r. ⌜ outcome r (now (out .exit)) ≡ wholeText (listingRefusal (length (now (memory .entry))) (length (now (writers .entry)))) (listingOf (now (memory .entry)) (now (writers .entry))) (now (out .entry)) ⌝ }
+    ensures { λ r. ⌜ outcome r (now (out .exit)) ≡ listingCall (now (memory .entry)) (now (writers .entry)) (now (out .entry)) ⌝ }
 {
     let refused = refusal(memory.len(), writers.len());
     if refused != 0 {
@@ -99,7 +99,7 @@ fn refused_line(n: u64, k: u8, out: &mut [u8]) -> usize
 
 // The line of a capture that is bad at line n + k, which may be past the largest u64: a capture's event n, from 0, stands in line n + 2.
 pub fn refused(n: u64, k: u8, out: &mut [u8]) -> Written
-    ensures { λ r. ⌜ outcome r (now (out .exit)) ≡ wholeText 0 (refusedOf (n + k)) (now (out .entry)) ⌝ }
+    ensures { λ r. ⌜ outcome r (now (out .exit)) ≡ refusedCall (n + k) (now (out .entry)) ⌝ }
 {
     let mut none = [0u8; 0];
     let needed = refused_line(n, k, &mut none);

@@ -2,15 +2,15 @@
 use mathlib.Core.Path.{_≡_, refl, sym, ap, _∙_, subst}
 use mathlib.Core.Bool.{Bool, true, false, cond}
 use mathlib.Core.List.{List, [], _∷_, _++_}
-use Prim.Native.Nat.{ℕ, suc, _+_, _/_, _%_, _≤_, _<_}
-use native.Mathlib.Nat.{add-zero, suc-add, add-suc}
+use Prim.Native.Nat.{ℕ, zero, suc, _+_, _*_, _-_, _/_, _%_, _≤_, _<_}
+use native.Mathlib.Nat.{add-zero, suc-add, add-suc, suc-mul}
 use native.Mathlib.Omega.{arith}
 use borrow.Author.Tests.{le-leb, leb-true, leb-false}
 use lib.Dec.{leb}
 use lib.ListN.{length, getD, drop, set, length-append, length-set, drop-of-length-le}
 use lib.Seq.{sets, set-out, length-sets}
 use Rattle.text.specs.Decimal.{digit}
-use Rattle.text.specs.Printed.{decimalOf, top, past, Wrote}
+use Rattle.text.specs.Printed.{decimalOf, top, past, Wrote, partsFrom}
 use Rattle.text.proofs.Digits.{decimal-one, decimal-more}
 use Rattle.text.proofs.Finding.{drop-next}
 
@@ -110,6 +110,30 @@ module _ (s : List ℕ) (n : ℕ) where
 
   pub rest-none : (l : List ℕ) (i : ℕ) → i ≤ top → length s ≤ n → Wrote l i (drop n s) l i
   rest-none l i t h = wrote-same (sym (drop-of-length-le s h)) (wrote-none l i t)
+
+-- ---- parts, up to part number t: before part k, and at the end; and how long they are where each has at most b bytes
+
+module _ (f : ℕ → List ℕ) (t k : ℕ) where
+  pub parts-turn :
+      {l m r : List ℕ} {i j e : ℕ} → k < t → length l ≤ top → Wrote l i (f k) m j → Wrote m j (partsFrom f (k + 1) (t - (k + 1))) r e
+      → Wrote l i (partsFrom f k (t - k)) r e
+  parts-turn h top-there a b =
+      let more : t - k ≡ suc (t - (k + 1)) = omega arith in
+      wrote-same (sym (ap (λ (n : ℕ). partsFrom f k n) more)) (wrote-then top-there a b)
+
+  pub parts-end : (l : List ℕ) (i : ℕ) → i ≤ top → t ≤ k → Wrote l i (partsFrom f k (t - k)) l i
+  parts-end l i h e = let none : t - k ≡ 0 = omega arith in wrote-same (sym (ap (λ (n : ℕ). partsFrom f k n) none)) (wrote-none l i h)
+
+pub parts-bound : (f : ℕ → List ℕ) (b t : ℕ) → ((j : ℕ) → j < t → length (f j) ≤ b) → (n k : ℕ) → k + n ≤ t → length (partsFrom f k n) ≤ n * b
+parts-bound f b t h zero k e = omega arith
+parts-bound f b t h (suc n) k e =
+    omega (
+      arith,
+      suc-mul n b,
+      length-append (f k) (partsFrom f (k + 1) n),
+      h k (omega arith),
+      parts-bound f b t h n (k + 1) (omega arith),
+    )
 
 -- ---- a number
 

@@ -60,6 +60,11 @@ pub record Wrote (l : List ℕ) (i : ℕ) (xs : List ℕ) (m : List ℕ) (j : �
   pub list : m ≡ sets l i xs
   pub next : j ≡ past i (length xs)
 
+-- the texts f k, f (k + 1) and so on, n of them, one after the other
+abbrev pub partsFrom : (ℕ → List ℕ) → ℕ → ℕ → List ℕ
+partsFrom f k zero = []
+partsFrom f k (suc n) = f k ++ partsFrom f (k + 1) n
+
 -- ---- a whole text
 
 -- document 01's number for the answer: 10 is an output shorter than needed, 0 none

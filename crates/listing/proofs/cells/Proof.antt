@@ -4,10 +4,9 @@ use Prim.Native.Nat.{ℕ, _-_, _≤_}
 use lib.ListN.{length}
 use native.Mathlib.Omega.{arith}
 use Rattle.registers.specs.State.{places}
-use Rattle.text.specs.Printed.{top, Wrote}
-use Rattle.text.proofs.Writing.{wrote-next}
-use Rattle.listing.specs.Listing.{rowsText}
-use Rattle.listing.proofs.Lines.{rowsRest, rows-turn, rows-end, listing-wrote}
+use Rattle.text.specs.Printed.{top, Wrote, partsFrom}
+use Rattle.text.proofs.Writing.{wrote-next, parts-turn, parts-end}
+use Rattle.listing.proofs.Lines.{lineAt, listing-wrote}
 use borrow.Author.Needs.{needs}
 use Rattle.listing.proofs.cells.Statement.{statement}
 use Rattle.listing.proofs.cells.Tie as tie
@@ -17,7 +16,7 @@ Inv-loop memory writers out₀ at₀ k₀ out at k =
     (k ≤ places)
     × (at ≤ top)
     × (length out ≡ length out₀)
-    × ((l : List ℕ) (j : ℕ) → Wrote out at (rowsText (rowsRest memory writers k)) l j → Wrote out₀ at₀ (rowsText (rowsRest memory writers 0)) l j)
+    × ((l : List ℕ) (j : ℕ) → Wrote out at (partsFrom (lineAt memory writers) k (places - k)) l j → Wrote out₀ at₀ (partsFrom (lineAt memory writers) 0 places) l j)
 
 abbrev μ-loop : tie.MeasureT-loop
 μ-loop memory writers out₀ at₀ k₀ out at k = places - k
@@ -50,7 +49,7 @@ loop-again c = (
   search needs,
   wrote-next (c .before .before .cell-at .ensures),
   search needs,
-  λ l j w. c .before .before .before .before .before .loop .inv .3 l j (rows-turn _ _ _ (c .before .before .before .before .loop-test .taken) (omega arith) (c .before .before .cell-at .ensures) w),
+  λ l j w. c .before .before .before .before .before .loop .inv .3 l j (parts-turn _ _ _ (c .before .before .before .before .loop-test .taken) (omega arith) (c .before .before .cell-at .ensures) w),
 )
 
 same-length : tie.Need-same-length Inv-loop μ-loop
@@ -59,7 +58,7 @@ same-length c = search needs
 returns : tie.Need-returns Inv-loop μ-loop
 returns c =
     listing-wrote _ _ (omega arith) (c .before .before .before .before .bytes .ensures)
-    (c .before .loop .inv .3 _ _ (rows-end _ _ _ _ _ (omega arith) (c .loop-test .left)))
+    (c .before .loop .inv .3 _ _ (parts-end _ _ _ _ _ (omega arith) (c .loop-test .left)))
 
 pub cells-spec : {M : Type 1} → statement M
 cells-spec =
