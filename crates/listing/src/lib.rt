@@ -1,10 +1,9 @@
 // The replay listing: the cells that have a writer, by bank, then column; and the line that says where a capture is bad.
-ghost use mathlib.Core.List.{[], _∷_, _++_};
 ghost use mathlib.Core.Path.{_≡_};
 ghost use Prim.Native.Nat.{_+_, _<_};
 ghost use lib.ListN.{length};
 ghost use Rattle.registers.specs.State.{places};
-ghost use Rattle.text.specs.Printed.{decimalOf, Wrote, outcome};
+ghost use Rattle.text.specs.Printed.{Wrote, outcome};
 ghost use Rattle.listing.specs.Listing.{row, rowAt, rowText, rowsText, listingOf, refusedOf, listingRefusal, listingCall, refusedCall};
 use text::print::Written;
 
@@ -12,22 +11,14 @@ const TAB: u8 = 9;
 
 const NEWLINE: u8 = 10;
 
-// A number and what parts it from the next.
-fn field(n: u64, end: u8, out: &mut [u8], at: usize) -> usize
-    ensures { λ r. ⌜ Wrote (now (out .entry)) at (decimalOf n ++ end ∷ []) (now (out .exit)) r ⌝ }
-{
-    let next = text::print::decimal(n, out, at);
-    text::print::byte(end, out, next)
-}
-
 // One cell's line.
 fn cell(column: u64, bank: u64, byte: u64, event: u64, out: &mut [u8], at: usize) -> usize
     ensures { λ r. ⌜ Wrote (now (out .entry)) at (rowText (row column bank byte event)) (now (out .exit)) r ⌝ }
 {
-    let columns = field(column, TAB, out, at);
-    let banks = field(bank, TAB, out, columns);
-    let bytes = field(byte, TAB, out, banks);
-    field(event, NEWLINE, out, bytes)
+    let columns = text::print::field(column, TAB, out, at);
+    let banks = text::print::field(bank, TAB, out, columns);
+    let bytes = text::print::field(byte, TAB, out, banks);
+    text::print::field(event, NEWLINE, out, bytes)
 }
 
 // The line of place k, if the cell there has a writer.

@@ -1,6 +1,6 @@
 // Text written into a buffer at a place: bytes, and numbers in decimal. Each writer stores what the buffer has places for and gives the
 // place after all of its bytes, so that a result above the length says that there was no room, and how much is needed.
-ghost use mathlib.Core.List.{[], _∷_};
+ghost use mathlib.Core.List.{[], _∷_, _++_};
 ghost use mathlib.Core.Path.{_≡_};
 ghost use Prim.Native.Nat.{_+_};
 ghost use Rattle.text.specs.Printed.{decimalOf, past, Wrote, writtenNumber, writtenLength};
@@ -80,6 +80,14 @@ pub fn decimal(n: u64, out: &mut [u8], at: usize) -> usize
     }
     let next = decimal(n / 10, out, at);
     byte(48 + (n % 10) as u8, out, next)
+}
+
+// The number n, and the byte that parts it from what follows.
+pub fn field(n: u64, end: u8, out: &mut [u8], at: usize) -> usize
+    ensures { λ r. ⌜ Wrote (now (out .entry)) at (decimalOf n ++ end ∷ []) (now (out .exit)) r ⌝ }
+{
+    let next = decimal(n, out, at);
+    byte(end, out, next)
 }
 
 // The sum n + k in decimal, also where no machine word holds it: k is carried into the tens first.
