@@ -14,20 +14,18 @@ use Rattle.text.proofs.Writing.{past-fits}
 whole-length : {l m : List ℕ} {n : ℕ} (xs : List ℕ) → length xs ≤ top → Wrote l 0 xs m n → n ≡ length xs
 whole-length xs h w = w .next ∙ past-fits 0 (length xs) (omega arith) ∙ zero-add (length xs)
 
-pub whole-short :
-    {none m : List ℕ} {n : ℕ} (xs l : List ℕ) → length xs ≤ top → Wrote none 0 xs m n → length l < n → outcome (Short n) l ≡ wholeText 0 xs l
-unfolding wholeText
-whole-short xs l h w short =
-    let same = whole-length xs h w in
-    rw (same, lt-leb (length xs) (length l) (omega arith))
+module _ {none m : List ℕ} {n : ℕ} (xs l : List ℕ) (bound : length xs ≤ top) (measured : Wrote none 0 xs m n) where
+  pub whole-short : length l < n → outcome (Short n) l ≡ wholeText 0 xs l
+  unfolding wholeText
+  whole-short short =
+      let same = whole-length xs bound measured in
+      rw (same, lt-leb (length xs) (length l) (omega arith))
 
-pub whole-written :
-    {l m : List ℕ} {n : ℕ} (xs : List ℕ) → length xs ≤ top → length xs ≤ length l → Wrote l 0 xs m n → outcome (Text n) m ≡ wholeText 0 xs l
-unfolding wholeText
-whole-written {l} xs h room w = rw (le-leb (length xs) (length l) room, whole-length xs h w, w .list)
-
-pub whole-room : {none m : List ℕ} {n : ℕ} (xs l : List ℕ) → length xs ≤ top → Wrote none 0 xs m n → n ≤ length l → length xs ≤ length l
-whole-room xs l h w room = omega (arith, whole-length xs h w)
+  pub whole-written : {r : List ℕ} {j : ℕ} → n ≤ length l → Wrote l 0 xs r j → outcome (Text j) r ≡ wholeText 0 xs l
+  unfolding wholeText
+  whole-written room w =
+      let same = whole-length xs bound measured in
+      rw (le-leb (length xs) (length l) (omega arith), whole-length xs bound w, w .list)
 
 -- x is what the code found, k what the definition says
 pub whole-refused : (x k : ℕ) (xs l : List ℕ) → x ≡ k → (x ≡ 0 → ⊥) → outcome (Refused x) l ≡ wholeText k xs l

@@ -1,6 +1,6 @@
 use mathlib.Core.Path.{sym, _∙_}
 use native.Mathlib.Omega.{arith}
-use Rattle.text.proofs.Whole.{whole-refused, whole-passed, whole-short, whole-written, whole-room}
+use Rattle.text.proofs.Whole.{whole-refused, whole-passed, whole-short, whole-written}
 use Rattle.listing.proofs.Lines.{listing-bound}
 use Rattle.listing.proofs.Refusals.{accepted}
 use borrow.Author.Needs.{needs}
@@ -21,7 +21,9 @@ cells-requires c κs = accepted _ _ (sym (c .before .before .refusal .ensures) �
 
 returns-2 : tie.Need-returns-2
 returns-2 c =
-    let bound = listing-bound (c .before .before .before .before .before .before .before .before .before .args .memory .now) (c .before .before .before .before .before .before .before .before .before .args .writers .now) (λ k. omega (arith, c .before .before .before .before .before .before .before .before .shared-slice-known .given k)) (λ k. omega (arith, c .before .before .before .before .before .before .before .shared-slice-known2 .given k)) in
+    let start = c .before .before .before .before .before .before .before .before .before in
+    let bound = listing-bound (start .args .memory .now) (start .args .writers .now)
+    (λ k. omega (arith, c .before .before .before .before .before .before .before .before .shared-slice-known .given k)) (λ k. omega (arith, c .before .before .before .before .before .before .before .shared-slice-known2 .given k)) in
     whole-passed _ _ _ _ (c .before .before .before .before .before .refusal .ensures) (c .before .before .before .before .if1 .left)
     (whole-short _ _ (omega arith) (c .before .before .cells .ensures) (c .if2 .taken))
 
@@ -33,9 +35,12 @@ same-length c = search needs
 
 returns-3 : tie.Need-returns-3
 returns-3 c =
-    let bound = listing-bound (c .before .before .before .before .before .before .before .before .before .before .before .before .before .args .memory .now) (c .before .before .before .before .before .before .before .before .before .before .before .before .before .args .writers .now) (λ k. omega (arith, c .before .before .before .before .before .before .before .before .before .before .before .before .shared-slice-known .given k)) (λ k. omega (arith, c .before .before .before .before .before .before .before .before .before .before .before .shared-slice-known2 .given k)) in
-    whole-passed _ _ _ _ (c .before .before .before .before .before .before .before .before .before .refusal .ensures) (c .before .before .before .before .before .before .before .before .if1 .left)
-    (whole-written _ (omega arith) (whole-room _ (c .before .before .before .before .before .before .before .before .before .before .before .before .before .args .out .now) (omega arith) (c .before .before .before .before .before .before .cells .ensures) (c .before .before .before .before .if2 .left)) (c .before .before .cells2 .ensures))
+    let tested = c .before .before .before .before in
+    let start = tested .before .before .before .before .before .before .before .before .before in
+    let bound = listing-bound (start .args .memory .now) (start .args .writers .now)
+    (λ k. omega (arith, tested .before .before .before .before .before .before .before .before .shared-slice-known .given k)) (λ k. omega (arith, tested .before .before .before .before .before .before .before .shared-slice-known2 .given k)) in
+    whole-passed _ _ _ _ (tested .before .before .before .before .before .refusal .ensures) (tested .before .before .before .before .if1 .left)
+    (whole-written _ (start .args .out .now) (omega arith) (tested .before .before .cells .ensures) (tested .if2 .left) (c .before .before .cells2 .ensures))
 
 pub listing-spec : {M : Type 1} → statement M
 listing-spec =

@@ -1,6 +1,6 @@
 use Prim.Native.Nat.{_+_}
 use native.Mathlib.Omega.{arith}
-use Rattle.text.proofs.Whole.{whole-short, whole-written, whole-room}
+use Rattle.text.proofs.Whole.{whole-short, whole-written}
 use Rattle.listing.proofs.Lines.{refused-bound}
 use borrow.Author.Needs.{needs}
 use Rattle.listing.proofs.refused.Statement.{statement}
@@ -13,7 +13,10 @@ refused-line-requires : tie.Need-refused-line-requires
 refused-line-requires c κs = search needs
 
 returns : tie.Need-returns
-returns c = whole-short _ _ (omega (arith, refused-bound (c .before .before .before .before .before .args .n + c .before .before .before .before .before .args .k) (omega arith))) (c .before .before .refused-line .ensures) (c .if1 .taken)
+returns c =
+    let start = c .before .before .before .before .before in
+    let bound = refused-bound (start .args .n + start .args .k) (omega arith) in
+    whole-short _ _ (omega arith) (c .before .before .refused-line .ensures) (c .if1 .taken)
 
 refused-line-requires-2 : tie.Need-refused-line-requires-2
 refused-line-requires-2 c κs = search needs
@@ -23,8 +26,10 @@ same-length c = search needs
 
 returns-2 : tie.Need-returns-2
 returns-2 c =
-    let bound = refused-bound (c .before .before .before .before .before .before .before .before .before .args .n + c .before .before .before .before .before .before .before .before .before .args .k) (omega arith) in
-    whole-written _ (omega arith) (whole-room _ (c .before .before .before .before .before .before .before .before .before .args .out .now) (omega arith) (c .before .before .before .before .before .before .refused-line .ensures) (c .before .before .before .before .if1 .left)) (c .before .before .refused-line2 .ensures)
+    let tested = c .before .before .before .before in
+    let start = tested .before .before .before .before .before in
+    let bound = refused-bound (start .args .n + start .args .k) (omega arith) in
+    whole-written _ (start .args .out .now) (omega arith) (tested .before .before .refused-line .ensures) (tested .if1 .left) (c .before .before .refused-line2 .ensures)
 
 pub refused-spec : {M : Type 1} → statement M
 refused-spec =

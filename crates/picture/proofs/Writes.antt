@@ -1,0 +1,88 @@
+-- The lines of the picture: what is written part by part is the whole line, and how long the text is at most.
+use mathlib.Core.Path.{_≡_, refl, sym, ap, _∙_}
+use mathlib.Core.List.{List, [], _∷_, _++_, append-assoc}
+use Prim.Native.Nat.{ℕ, _+_, _*_, _/_, _%_, _-_, _^_, _≤_, _<_}
+use native.Mathlib.Omega.{arith}
+use lib.ListN.{length, length-append}
+use Rattle.registers.specs.declared.Chip.{Chip}
+use Rattle.glass.specs.declared.answer.Shown.{Shown}
+use Rattle.glass.specs.declared.answer.Shown.the-variants as shown
+use Rattle.glass.specs.Glass.{glassOf}
+use Rattle.text.specs.Printed.{decimalOf, top, Wrote, partsFrom}
+use Rattle.text.proofs.Digits.{decimal-bound}
+use Rattle.text.proofs.Writing.{wrote-then, wrote-same, parts-bound}
+use Rattle.picture.specs.declared.Colour.{Colour}
+use Rattle.picture.specs.Picture.{rgb, grey, colourOf, pixelText, header, pixelAt, pixelCount, pixmapOf}
+
+-- ---- one pixel
+
+pixel-fields : (a b c : List ℕ) → (a ++ (32 ∷ [])) ++ ((b ++ (32 ∷ [])) ++ (c ++ (10 ∷ []))) ≡ (a ++ 32 ∷ (b ++ 32 ∷ c)) ++ (10 ∷ [])
+pixel-fields a b c = simp append-assoc
+
+pub pixel-wrote :
+    {l m o r : List ℕ} {i j k n : ℕ} (colour : Colour)
+    → length l ≤ top
+    → length m ≤ top
+    → Wrote l i (decimalOf (colour .red) ++ (32 ∷ [])) m j
+    → Wrote m j (decimalOf (colour .green) ++ (32 ∷ [])) o k
+    → Wrote o k (decimalOf (colour .blue) ++ (10 ∷ [])) r n
+    → Wrote l i (pixelText colour) r n
+pixel-wrote colour hl hm a b c =
+    wrote-same (pixel-fields (decimalOf (colour .red)) (decimalOf (colour .green)) (decimalOf (colour .blue))) (wrote-then hl a (wrote-then hm b c))
+
+pub pixel-shown :
+    {l m : List ℕ} {i j : ℕ} (c : Chip) (memory : List ℕ) (k : ℕ) (s : Shown) (colour : Colour)
+    → s ≡ glassOf c memory (k / 101) (k % 101) → colour ≡ colourOf s → Wrote l i (pixelText colour) m j → Wrote l i (pixelAt c memory k) m j
+pixel-shown c memory k s colour es ec w = wrote-same (ap pixelText (ec ∙ ap colourOf es)) w
+
+-- ---- all of them
+
+pub pixmap-wrote :
+    {l m r : List ℕ} {i j : ℕ} (c : Chip) (memory : List ℕ) → length l ≤ top → Wrote l 0 header m i
+    → Wrote m i (partsFrom (pixelAt c memory) 0 pixelCount) r j → Wrote l 0 (pixmapOf c memory) r j
+unfolding pixmapOf
+pixmap-wrote c memory t a b = wrote-then t a b
+
+-- ---- how long
+
+-- the three parts are bytes
+record Bytes (c : Colour) : Type 0 where
+  red : c .red < 256
+  green : c .green < 256
+  blue : c .blue < 256
+
+grey-bound : (g : ℕ) → grey g < 256
+grey-bound g = omega arith
+
+colour-bytes : (s : Shown) → Bytes (colourOf s)
+colour-bytes (shown.Level g) = record { red = grey-bound g; green = grey-bound g; blue = grey-bound g }
+colour-bytes shown.Dark = record { red = omega arith; green = omega arith; blue = omega arith }
+colour-bytes shown.Undriven = record { red = omega arith; green = omega arith; blue = omega arith }
+colour-bytes (shown.Refused n) = record { red = omega arith; green = omega arith; blue = omega arith }
+
+pixel-length : (a b c : List ℕ) → length ((a ++ 32 ∷ (b ++ 32 ∷ c)) ++ (10 ∷ [])) ≡ length a + length b + length c + 3
+pixel-length a b c = simp length-append (omega arith)
+
+pixel-bound : (c : Colour) → Bytes c → length (pixelText c) ≤ 12
+pixel-bound c h =
+    omega (
+      arith,
+      pixel-length (decimalOf (c .red)) (decimalOf (c .green)) (decimalOf (c .blue)),
+      decimal-bound 2 (c .red) (omega (arith, h .red)),
+      decimal-bound 2 (c .green) (omega (arith, h .green)),
+      decimal-bound 2 (c .blue) (omega (arith, h .blue)),
+    )
+
+-- the header's 14 bytes, and for each pixel three numbers of three digits
+pub pixmap-bound : (c : Chip) (memory : List ℕ) → length (pixmapOf c memory) ≤ 81218
+unfolding pixmapOf
+pixmap-bound c memory = go pixelCount refl
+  where
+    go : (n : ℕ) → n ≡ 6767 → length (header ++ partsFrom (pixelAt c memory) 0 n) ≤ 81218
+    go n e =
+        omega (
+          arith,
+          length-append header (partsFrom (pixelAt c memory) 0 n),
+          parts-bound (pixelAt c memory) 12 n
+              (λ k h. pixel-bound (colourOf (glassOf c memory (k / 101) (k % 101))) (colour-bytes (glassOf c memory (k / 101) (k % 101)))) n 0 (omega arith),
+        )

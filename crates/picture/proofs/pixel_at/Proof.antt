@@ -1,0 +1,23 @@
+use Rattle.picture.proofs.Writes.{pixel-shown}
+use borrow.Author.Needs.{needs}
+use Rattle.picture.proofs.pixel_at.Statement.{statement}
+use Rattle.picture.proofs.pixel_at.Tie as tie
+
+glass-requires : tie.Need-glass-requires
+glass-requires c κs = search needs
+
+colour-of-requires : tie.Need-colour-of-requires
+colour-of-requires c κs = search needs
+
+pixel-requires : tie.Need-pixel-requires
+pixel-requires c κs = search needs
+
+same-length : tie.Need-same-length
+same-length c = search needs
+
+returns : tie.Need-returns
+returns c = pixel-shown (c .before .before .before .before .before .before .before .before .args .chip) _ _ _ _ (c .before .before .before .before .before .glass .ensures) (c .before .before .before .before .colour-of .ensures) (c .before .before .pixel .ensures)
+
+pub pixel-at-spec : {M : Type 1} → statement M
+pixel-at-spec =
+    tie.close (tie.spec glass-requires colour-of-requires pixel-requires same-length returns)
