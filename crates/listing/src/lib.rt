@@ -15,10 +15,10 @@ const NEWLINE: u8 = 10;
 fn cell(column: u64, bank: u64, byte: u64, event: u64, out: &mut [u8], at: usize) -> usize
     ensures { λ r. ⌜ Wrote (now (out .entry)) at (rowText (row column bank byte event)) (now (out .exit)) r ⌝ }
 {
-    let columns = text::print::field(column, TAB, out, at);
-    let banks = text::print::field(bank, TAB, out, columns);
-    let bytes = text::print::field(byte, TAB, out, banks);
-    text::print::field(event, NEWLINE, out, bytes)
+    let after_column = text::print::field(column, TAB, out, at);
+    let after_bank = text::print::field(bank, TAB, out, after_column);
+    let after_byte = text::print::field(byte, TAB, out, after_bank);
+    text::print::field(event, NEWLINE, out, after_byte)
 }
 
 // The line of place k, if the cell there has a writer.

@@ -1,7 +1,7 @@
 -- The lines of the picture: what is written part by part is the whole line, and how long the text is at most.
-use mathlib.Core.Path.{_≡_, refl, sym, ap, _∙_}
+use mathlib.Core.Path.{_≡_, refl, ap, _∙_}
 use mathlib.Core.List.{List, [], _∷_, _++_, append-assoc}
-use Prim.Native.Nat.{ℕ, _+_, _*_, _/_, _%_, _-_, _^_, _≤_, _<_}
+use Prim.Native.Nat.{ℕ, _+_, _/_, _%_, _≤_, _<_}
 use native.Mathlib.Omega.{arith}
 use lib.ListN.{length, length-append}
 use Rattle.registers.specs.declared.Chip.{Chip}
@@ -12,7 +12,7 @@ use Rattle.text.specs.Printed.{decimalOf, top, Wrote, partsFrom}
 use Rattle.text.proofs.Digits.{decimal-bound}
 use Rattle.text.proofs.Writing.{wrote-then, wrote-same, parts-bound}
 use Rattle.picture.specs.declared.Colour.{Colour}
-use Rattle.picture.specs.Picture.{rgb, grey, colourOf, pixelText, header, pixelAt, pixelCount, pixmapOf}
+use Rattle.picture.specs.Picture.{grey, colourOf, pixelText, header, pixelAt, pixelCount, pixmapOf}
 
 -- ---- one pixel
 

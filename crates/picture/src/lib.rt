@@ -55,9 +55,9 @@ fn colour_of(shown: Shown) -> Colour
 fn pixel(colour: Colour, out: &mut [u8], at: usize) -> usize
     ensures { λ r. ⌜ Wrote (now (out .entry)) at (pixelText colour) (now (out .exit)) r ⌝ }
 {
-    let green = text::print::field(colour.red as u64, BLANK, out, at);
-    let blue = text::print::field(colour.green as u64, BLANK, out, green);
-    text::print::field(colour.blue as u64, NEWLINE, out, blue)
+    let after_red = text::print::field(colour.red as u64, BLANK, out, at);
+    let after_green = text::print::field(colour.green as u64, BLANK, out, after_red);
+    text::print::field(colour.blue as u64, NEWLINE, out, after_green)
 }
 
 fn pixel_at(chip: Chip, memory: &[u8], k: usize, out: &mut [u8], at: usize) -> usize

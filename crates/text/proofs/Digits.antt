@@ -1,12 +1,14 @@
 -- The digits of a number: one by one, that they spell it and nothing else does, how many there are, and that the short numbers of lists are printed so too.
 use mathlib.Core.Path.{_≡_, refl, sym, ap, _∙_}
-use mathlib.Core.Bool.{true}
+use mathlib.Core.Bool.{Bool, true, false, cond}
 use mathlib.Core.List.{List, [], _∷_, _++_, append-assoc, append-nil}
 use Prim.Native.Nat.{ℕ, zero, suc, _+_, _*_, _/_, _%_, _^_, _≤_, _<_}
 use native.Mathlib.Decide.{decLt}
 use native.Mathlib.Omega.{arith}
-use borrow.Author.Tests.{lt-ltb, le-ltb}
+use borrow.Author.Tests.{lt-ltb, le-ltb, ne-eqb}
+use lib.Dec.{eqb}
 use lib.ListN.{length, length-append}
+use Rattle.text.specs.Text.{countOf}
 use Rattle.text.specs.Decimal.{isDigit, isLeading, worth, digit, decimal}
 use Rattle.text.specs.Printed.{digitsUpTo, decimalOf, allDigits, worthAfter, wellLed, Spells}
 use Rattle.text.proofs.Numbers.{and-both, digit-bounds, leading-bounds, bounds-digit, bounds-leading}
@@ -134,6 +136,28 @@ decimal-bound (suc k) n h = go (decLt n 10) (decimal-bound k (n / 10))
     go (no m) rest =
         let fewer = rest (omega arith) in
         rw (decimal-more n (omega arith)) (omega (arith, length-append (decimalOf (n / 10)) (digit (n % 10) ∷ [])))
+
+-- ---- a byte that is no digit is not among them, so that it can part numbers
+
+pub count-append : (b : ℕ) (xs ys : List ℕ) → countOf b (xs ++ ys) ≡ countOf b xs + countOf b ys
+count-append b [] ys = omega arith
+count-append b (x ∷ xs) ys = go (eqb x b) (count-append b xs ys)
+  where
+    go :
+        (t : Bool) → countOf b (xs ++ ys) ≡ countOf b xs + countOf b ys
+        → cond t (suc (countOf b (xs ++ ys))) (countOf b (xs ++ ys)) ≡ cond t (suc (countOf b xs)) (countOf b xs) + countOf b ys
+    go true h = omega arith
+    go false h = h
+
+digits-free : (b : ℕ) (ds : List ℕ) → b < 48 → allDigits ds ≡ true → countOf b ds ≡ 0
+digits-free b [] l h = refl
+digits-free b (d ∷ ds) l h =
+    let both = and-both (isDigit d) (allDigits ds) h in
+    let bounds = digit-bounds d (both .0) in
+    rw (ne-eqb d b (λ e. omega arith)) (digits-free b ds l (both .1))
+
+pub number-free : (b n : ℕ) → b < 48 → countOf b (decimalOf n) ≡ 0
+number-free b n l = digits-free b (decimalOf n) l (decimal-spells n .digits)
 
 -- ---- the short numbers of lists
 

@@ -1,7 +1,7 @@
 -- What was written one after the other was written together, and what it is where there is room.
 use mathlib.Core.Path.{_≡_, refl, sym, ap, _∙_, subst}
 use mathlib.Core.Bool.{Bool, true, false, cond}
-use mathlib.Core.List.{List, [], _∷_, _++_}
+use mathlib.Core.List.{List, [], _∷_, _++_, append-assoc}
 use Prim.Native.Nat.{ℕ, zero, suc, _+_, _*_, _-_, _/_, _%_, _≤_, _<_}
 use native.Mathlib.Nat.{add-zero, suc-add, add-suc, suc-mul}
 use native.Mathlib.Omega.{arith}
@@ -9,9 +9,10 @@ use borrow.Author.Tests.{le-leb, leb-true, leb-false}
 use lib.Dec.{leb}
 use lib.ListN.{length, getD, drop, set, length-append, length-set, drop-of-length-le}
 use lib.Seq.{sets, set-out, length-sets}
+use Rattle.text.specs.Text.{countOf}
 use Rattle.text.specs.Decimal.{digit}
 use Rattle.text.specs.Printed.{decimalOf, top, past, Wrote, partsFrom}
-use Rattle.text.proofs.Digits.{decimal-one, decimal-more}
+use Rattle.text.proofs.Digits.{decimal-one, decimal-more, count-append}
 use Rattle.text.proofs.Finding.{drop-next}
 
 -- ---- the place after n bytes
@@ -134,6 +135,23 @@ parts-bound f b t h (suc n) k e =
       h k (omega arith),
       parts-bound f b t h n (k + 1) (omega arith),
     )
+
+-- the n parts before part p, that part, and the m after it
+pub parts-split :
+    (f : ℕ → List ℕ) (n m k p t : ℕ) → p ≡ k + n → t ≡ n + suc m → partsFrom f k t ≡ partsFrom f k n ++ (f p ++ partsFrom f (p + 1) m)
+parts-split f zero m k p t ep et =
+    let here : p ≡ k = omega arith in
+    let all : t ≡ suc m = omega arith in
+    rw (here, all)
+parts-split f (suc n) m k p t ep et =
+    let all : t ≡ suc (n + suc m) = omega arith in
+    ap (λ (x : ℕ). partsFrom f k x) all
+    ∙ ap (λ (l : List ℕ). f k ++ l) (parts-split f n m (k + 1) p (n + suc m) (omega arith) refl)
+    ∙ sym (append-assoc (f k) (partsFrom f (k + 1) n) (f p ++ partsFrom f (p + 1) m))
+
+pub parts-count : (b : ℕ) (f : ℕ → List ℕ) → ((k : ℕ) → countOf b (f k) ≡ 1) → (n k : ℕ) → countOf b (partsFrom f k n) ≡ n
+parts-count b f h zero k = refl
+parts-count b f h (suc n) k = omega (arith, count-append b (f k) (partsFrom f (k + 1) n), h k, parts-count b f h n (k + 1))
 
 -- ---- a number
 
