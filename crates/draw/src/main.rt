@@ -1,0 +1,96 @@
+// draw PINS [LIST]: prints the capture that plays a drawing list on a chip after reset, or the one line that says why the compiler refuses it.
+// The list is the file that LIST names, or standard input. Nothing is printed before the whole list is known to be good.
+mod input;
+mod print;
+
+use registers::Chip;
+use text::Number;
+
+// 0 to 3, and 4 for anything else.
+fn pins_of(number: Number) -> u8 {
+    match number {
+        Number::Value(n) => { if n < 4 { n as u8 } else { 4 } }
+        Number::Malformed => 4,
+    }
+}
+
+fn pins() -> u8 {
+    let mut word = [0u8; 4];
+    let n = os::arg(1, &mut word);
+    if os::errno() != 0 {
+        return 4;
+    }
+    pins_of(text::decimal::number(&word[..n]))
+}
+
+// Whether the compiler takes the list. It is asked with no room for events: 10 then says that the list is good.
+fn is_good(chip: Chip, list: &[u8]) -> bool {
+    let mut none = [0u16; 0];
+    let told = compiler::compile(chip, list, &mut none).numbers();
+    if told.number == 0 {
+        return true;
+    }
+    if told.number == 10 {
+        return true;
+    }
+    print::refused(told.number, told.line);
+    false
+}
+
+// One line's events, printed and played: the next line is compiled for the registers that they leave. No line has more than 2,727 events, those of
+// a fill of the whole glass column by column.
+fn draw_line(chip: Chip, line: &[u8], memory: &mut [u8], writers: &mut [u64]) -> Chip {
+    let mut out = [0u16; 2727];
+    let told = compiler::compile(chip, line, &mut out).numbers();
+    let n = told.length as usize;
+    if told.number != 0 {
+        return chip;
+    }
+    if out.len() < n {
+        return chip;
+    }
+    print::events(&out[..n]);
+    engine::run::run(chip, memory, writers, &out[..n]).chip
+}
+
+// Line by line, so that the stream of a long list, millions of events, is never held as a whole.
+fn draw(chip: Chip, list: &[u8], memory: &mut [u8], writers: &mut [u64]) {
+    let mut now = chip;
+    let mut at = 0;
+    while at < list.len() {
+        let next = lists::line_at(list, at).next;
+        now = draw_line(now, &list[at..next], memory, writers);
+        at = next;
+    }
+}
+
+fn draw_good(chip: Chip, list: &[u8]) {
+    let mut memory = [0u8; 1717];
+    let mut writers = [0u64; 1717];
+    if is_good(chip, list) {
+        print::first_line(chip.pins);
+        draw(chip, list, &mut memory, &mut writers);
+    }
+}
+
+fn draw_from(fd: i32, pins: u8) {
+    let mut list = [0u8; 1048576];
+    let n = io::read_full(fd, &mut list);
+    if input::ended(fd) {
+        draw_good(Chip::reset(pins), &list[..n]);
+    }
+}
+
+fn main() {
+    let words = os::arg_count();
+    let pins = pins();
+    if words < 2 || 3 < words || 3 < pins {
+        input::say(b"usage: draw PINS [LIST], where PINS is 0, 1, 2 or 3\n");
+        return;
+    }
+    let fd = input::open(2);
+    if fd < 0 {
+        return;
+    }
+    draw_from(fd, pins);
+}
