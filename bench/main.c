@@ -1,4 +1,4 @@
-/* How fast the library's calls are against the plain C model of tests/model, both -O2, in one run.
+/* How fast the library's calls are against the plain C model of tests/model, in one run.
  *
  * A round times both sides on the same input, turn and turn about, by the processor's own time. Before
  * a side is timed its buffers are cleared or lit up anew, so that they are in the cache; what that
