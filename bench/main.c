@@ -166,6 +166,7 @@ static void compare_chip(void)
         void (*fill)(struct stream *);
     } streams[] = {
         { "step, whole banks", "run, whole banks", "run, a bank a call", banks_stream },
+        { "step, banks, DO 1", "run, banks, DO 1", "run, DO 1, a bank a call", swapped_stream },
         { "step, single cells", "run, single cells", "run, a cell a call", cells_stream },
         { "step, commands", "run, commands", "run, a command a call", commands_stream },
         { "step, mixed", "run, mixed", "run, mixed, one a call", mixed_stream },

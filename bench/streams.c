@@ -6,7 +6,8 @@ enum { START = 256, STOP = 257, READ_ACK = 258, READ_NACK = 259, RESET_PULSE = 2
 
 enum { WRITE = 0x78, READ = 0x79, OTHER_CHIP = 0x7A };
 
-enum { ONE_COMMAND = 0x80, ENDLESS_DATA = 0x40, PAGE_0 = 0x01, PAGE = 0x08, SET_X = 0x80, SET_Y = 0x40 };
+enum { ONE_COMMAND = 0x80, ENDLESS_DATA = 0x40, PAGE_0 = 0x01, PAGE = 0x08,
+       SELECT_DO = 0x18, SET_X = 0x80, SET_Y = 0x40 };
 
 enum { COLUMNS = 101, BANKS = 17, LONGEST_MESSAGE = 128 };
 
@@ -118,17 +119,37 @@ static void add_any(struct stream *stream)
 
 /* ---- Streams ----------------------------------------------------------------------------- */
 
-static void fill(struct stream *stream, void (*add_message)(struct stream *))
+static void empty(struct stream *stream)
 {
     stream->length = 0;
     stream->messages = 0;
+}
+
+static void fill_up(struct stream *stream, void (*add_message)(struct stream *))
+{
     while (stream->length + LONGEST_MESSAGE <= MOST_EVENTS)
         add_message(stream);
+}
+
+static void fill(struct stream *stream, void (*add_message)(struct stream *))
+{
+    empty(stream);
+    fill_up(stream, add_message);
 }
 
 void banks_stream(struct stream *stream)
 {
     fill(stream, add_bank);
+}
+
+void swapped_stream(struct stream *stream)
+{
+    empty(stream);
+    start(stream, WRITE);
+    add_command(stream, PAGE_0);
+    add_command(stream, SELECT_DO);
+    stop(stream);
+    fill_up(stream, add_bank);
 }
 
 void cells_stream(struct stream *stream)

@@ -17,6 +17,7 @@ struct stream {
 
 /* Each fills a stream. */
 void banks_stream(struct stream *stream);    /* whole banks of display data */
+void swapped_stream(struct stream *stream);  /* the same with DO = 1 */
 void cells_stream(struct stream *stream);    /* single cells, each with its address */
 void commands_stream(struct stream *stream); /* registers, one a message */
 void mixed_stream(struct stream *stream);    /* all of these, reads, readings, other chips' messages */
