@@ -4,8 +4,9 @@ What is asked of a program, by what the model does:
 
 - the model ends with status 0: the output is the model's, byte by byte; where it is no refusal, the
   status is 0 and nothing stands on standard error;
-- the model gives up: the status is neither 0 nor that of a crash, there is no output, and exactly one
-  line on standard error.
+- the model gives up: there is no crash, no output, and exactly one line on standard error; the status
+  is not 0 where that is asked for. (It is not asked of a Rattle program: it ends with 0 whenever its
+  `main` returns.)
 """
 import os
 import subprocess
@@ -75,10 +76,10 @@ def shown(data):
     return repr(data[:300]) + (f" and {len(data) - 300} bytes more" if len(data) > 300 else "")
 
 
-def difference(ours, theirs):
+def difference(ours, theirs, with_status):
     """What is wrong with ours, or None."""
     if theirs.status != 0:
-        if ours.status <= 0:
+        if ours.status < 0 or (with_status and ours.status == 0):
             return f"status {ours.status} for a call that has to fail"
         if ours.output:
             return f"output {shown(ours.output)} of a call that has to fail"
@@ -95,15 +96,16 @@ def difference(ours, theirs):
 class Sides:
     """The directory of the programs and that of the model's; counts the comparisons."""
 
-    def __init__(self, programs, model, quick):
-        self.programs, self.model, self.quick = programs, model, quick
+    def __init__(self, programs, model, quick, with_status):
+        self.programs, self.model = programs, model
+        self.quick, self.with_status = quick, with_status
         self.theme, self.compared = "", 0
 
     def words(self, directory, words):
         return [os.path.join(directory, words[0])] + words[1:]
 
     def judge(self, what, data, ours, theirs):
-        wrong = difference(ours, theirs)
+        wrong = difference(ours, theirs, self.with_status)
         if wrong:
             raise Difference(f"{self.theme}: {what}\ninput: {shown(data)}\n{wrong}")
         self.compared += 1

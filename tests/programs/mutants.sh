@@ -41,7 +41,7 @@ link_program() {
 holds() {
     directory=$1
     shift
-    python3 -B tests/programs/main.py "$directory" "$out/model" quick "$@"
+    python3 -B tests/programs/main.py --status "$directory" "$out/model" quick "$@"
 }
 
 build_model() {
