@@ -63,6 +63,16 @@ static void emit(struct stream *stream, unsigned event)
         stream->bytes++;
 }
 
+/* The same display byte, this many times. */
+static void emit_bytes(struct stream *stream, unsigned byte, unsigned count)
+{
+    if (stream->out != NULL)
+        for (unsigned i = 0; i < count; i++)
+            stream->out[stream->length + i] = (uint16_t)byte;
+    stream->length += count;
+    stream->bytes += count;
+}
+
 static void emit_command(struct stream *stream, unsigned byte)
 {
     emit(stream, ONE_COMMAND);
@@ -96,8 +106,7 @@ static void emit_run(struct stream *stream, const uint64_t *record, unsigned x, 
     emit_command(stream, SET_X | x);
     emit_command(stream, SET_Y | y);
     emit(stream, ENDLESS_DATA);
-    for (unsigned i = 0; i < count; i++)
-        emit(stream, sent);
+    emit_bytes(stream, sent, count);
     emit(stream, STOP);
 }
 

@@ -1,0 +1,208 @@
+/* How fast the library's calls are against the plain C model of tests/model, in one run.
+ *
+ * A round times both sides on the same input, turn and turn about, by the processor's own time. Before
+ * a side is timed its buffers are cleared or lit up anew, so that they are in the cache; what that
+ * takes is not timed. After it both sides must stand alike. */
+#include "lists.h"
+#include "records.h"
+#include "sides.h"
+#include "streams.h"
+
+#include <stdbool.h>
+#include <stdio.h>
+#include <stdlib.h>
+#include <time.h>
+
+enum { ROUNDS = 15, COLUMNS = 101, ROWS = 67, LIST_LINES = 400 };
+
+static struct stream stream;
+static struct text text;
+
+/* ---- What is timed ----------------------------------------------------------------------- */
+
+/* Each does its work once on one side, and gives how many events or pixels that was. */
+
+static uint64_t step_all(struct side *side)
+{
+    for (size_t i = 0; i < stream.length; i++)
+        side->sum += side->calls->step(side->record, WORDS, side->memory, PLACES,
+                                       side->writers, PLACES, stream.events[i]);
+    return stream.length;
+}
+
+static void run_part(struct side *side, size_t from, size_t to)
+{
+    uint64_t done;
+    side->sum += side->calls->run(side->record, WORDS, side->memory, PLACES, side->writers, PLACES,
+                                  stream.events + from, to - from, &done);
+    side->sum += done;
+}
+
+static uint64_t run_all(struct side *side)
+{
+    run_part(side, 0, stream.length);
+    return stream.length;
+}
+
+static uint64_t run_messages(struct side *side)
+{
+    size_t from = 0;
+    for (size_t i = 0; i < stream.messages; i++) {
+        run_part(side, from, stream.ends[i]);
+        from = stream.ends[i];
+    }
+    return from;
+}
+
+static uint64_t look_at_all(struct side *side)
+{
+    for (uint64_t row = 0; row < ROWS; row++)
+        for (uint64_t column = 0; column < COLUMNS; column++)
+            side->sum += side->calls->glass(side->record, WORDS, side->memory, PLACES, row, column);
+    return ROWS * COLUMNS;
+}
+
+static uint64_t compile_all(struct side *side)
+{
+    uint64_t length, clocks, line;
+    side->sum += side->calls->compile(side->record, WORDS, text.bytes, text.length,
+                                      side->out, MOST_OUT, &length, &clocks, &line);
+    side->sum += length + clocks + line;
+    return length;
+}
+
+/* ---- Drawing lists ----------------------------------------------------------------------- */
+
+static void sets_list(void)
+{
+    clear_text(&text);
+    for (int i = 0; i < LIST_LINES; i++)
+        add_random_set(&text);
+}
+
+static void fills_list(unsigned v)
+{
+    clear_text(&text);
+    add_set(&text, W_V, v);
+    for (int i = 0; i < LIST_LINES; i++)
+        add_random_fill(&text);
+}
+
+static void puts_list(void)
+{
+    clear_text(&text);
+    for (int i = 0; i < LIST_LINES; i++)
+        add_put(&text, (unsigned)below(COLUMNS), (unsigned)below(16), (unsigned)below(256));
+}
+
+static void mixed_list(void)
+{
+    random_list(&text, LIST_LINES);
+}
+
+/* ---- Rounds ------------------------------------------------------------------------------ */
+
+static double seconds(void)
+{
+    struct timespec now;
+    clock_gettime(CLOCK_THREAD_CPUTIME_ID, &now);
+    return (double)now.tv_sec + 1e-9 * (double)now.tv_nsec;
+}
+
+/* How much a side does in a second. */
+static double speed(struct side *side, uint64_t (*work)(struct side *), int times)
+{
+    uint64_t done = 0;
+    double from = seconds();
+    for (int i = 0; i < times; i++)
+        done += work(side);
+    return (double)done / (seconds() - from);
+}
+
+static int by_size(const void *a, const void *b)
+{
+    double x = *(const double *)a;
+    double y = *(const double *)b;
+    return (x > y) - (x < y);
+}
+
+static double median(double *of)
+{
+    qsort(of, ROUNDS, sizeof *of, by_size);
+    return of[ROUNDS / 2];
+}
+
+static void clear_both(void)
+{
+    clear(&library);
+    clear(&model);
+}
+
+static void compare(const char *name, const char *unit, uint64_t (*work)(struct side *), int times,
+                    void (*prepare)(void))
+{
+    double ours[ROUNDS], theirs[ROUNDS], ratio[ROUNDS];
+    for (int i = 0; i < ROUNDS; i++) {
+        bool ours_first = i % 2 == 0;
+        prepare();
+        if (ours_first)
+            ours[i] = speed(&library, work, times);
+        theirs[i] = speed(&model, work, times);
+        if (!ours_first)
+            ours[i] = speed(&library, work, times);
+        must_agree(name);
+        ratio[i] = ours[i] / theirs[i];
+    }
+    double middle = median(ratio);
+    printf("%-26s %6.2f %6.2f %6.2f   %7.1f %7.1f  M %s/s\n", name, ratio[0], middle,
+           ratio[ROUNDS - 1], 1e-6 * median(ours), 1e-6 * median(theirs), unit);
+    fflush(stdout);
+}
+
+static void compare_chip(void)
+{
+    static const struct {
+        const char *step, *run, *messages;
+        void (*fill)(struct stream *);
+    } streams[] = {
+        { "step, whole banks", "run, whole banks", "run, a bank a call", banks_stream },
+        { "step, banks, DO 1", "run, banks, DO 1", "run, DO 1, a bank a call", swapped_stream },
+        { "step, single cells", "run, single cells", "run, a cell a call", cells_stream },
+        { "step, commands", "run, commands", "run, a command a call", commands_stream },
+        { "step, mixed", "run, mixed", "run, mixed, one a call", mixed_stream },
+    };
+    for (size_t i = 0; i < sizeof streams / sizeof streams[0]; i++) {
+        streams[i].fill(&stream);
+        compare(streams[i].step, "events", step_all, 4, clear_both);
+        compare(streams[i].run, "events", run_all, 16, clear_both);
+        compare(streams[i].messages, "events", run_messages, 16, clear_both);
+    }
+}
+
+static void compare_compilers(void)
+{
+    if (library.calls->compile == NULL) {
+        printf("compile: not in the library, left out\n");
+        return;
+    }
+    fills_list(0);
+    compare("compile, fills, V 0", "events", compile_all, 50, clear_both);
+    fills_list(1);
+    compare("compile, fills, V 1", "events", compile_all, 50, clear_both);
+    puts_list();
+    compare("compile, puts", "events", compile_all, 100, clear_both);
+    sets_list();
+    compare("compile, sets", "events", compile_all, 100, clear_both);
+    mixed_list();
+    compare("compile, mixed", "events", compile_all, 50, clear_both);
+}
+
+int main(void)
+{
+    printf("library speed / model speed, %d rounds; buffers cleared before each\n", ROUNDS);
+    printf("%-26s %6s %6s %6s   %7s %7s\n", "", "least", "median", "most", "library", "model");
+    compare_chip();
+    compare("glass, every pixel", "pixels", look_at_all, 40, light_up);
+    compare_compilers();
+    return 0;
+}

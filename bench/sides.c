@@ -1,0 +1,69 @@
+#include "sides.h"
+
+#include "compile.h"
+#include "glass.h"
+#include "model.h"
+#include "pcf8820.h"
+#include "records.h"
+
+#include <stdio.h>
+#include <stdlib.h>
+#include <string.h>
+
+static const struct calls library_calls = {
+    .step = pcf8820_step,
+    .run = pcf8820_run,
+    .glass = pcf8820_glass,
+#ifdef LIBRARY_COMPILES
+    .compile = pcf8820_compile,
+#endif
+};
+
+static const struct calls model_calls = {
+    .step = model_step,
+    .run = model_run,
+    .glass = model_glass,
+    .compile = model_compile,
+};
+
+struct side library = { .calls = &library_calls };
+struct side model = { .calls = &model_calls };
+
+void clear(struct side *side)
+{
+    model_reset(side->record, WORDS, 0);
+    memset(side->memory, 0, sizeof side->memory);
+    memset(side->writers, 0, sizeof side->writers);
+    memset(side->out, 0, sizeof side->out);
+    side->sum = 0;
+}
+
+void light_up(void)
+{
+    static const struct {
+        size_t word;
+        uint64_t value;
+    } lit[] = { { W_PD, 0 }, { W_DOF, 0 }, { W_D, 1 }, { W_GS0, 3 }, { W_GS0 + 1, 20 },
+                { W_GS0 + 2, 41 }, { W_GS0 + 3, 60 } };
+    clear(&library);
+    for (size_t i = 0; i < sizeof lit / sizeof lit[0]; i++)
+        library.record[lit[i].word] = lit[i].value;
+    for (size_t i = 0; i < PLACES; i++)
+        library.memory[i] = (uint8_t)below(256);
+    memcpy(model.record, library.record, sizeof model.record);
+    memcpy(model.memory, library.memory, sizeof model.memory);
+    memset(model.writers, 0, sizeof model.writers);
+    model.sum = 0;
+}
+
+void must_agree(const char *name)
+{
+    if (library.sum == model.sum
+        && memcmp(library.record, model.record, sizeof model.record) == 0
+        && memcmp(library.memory, model.memory, sizeof model.memory) == 0
+        && memcmp(library.writers, model.writers, sizeof model.writers) == 0
+        && memcmp(library.out, model.out, sizeof model.out) == 0)
+        return;
+    fprintf(stderr, "bench: %s: the library and the model do not give the same\n", name);
+    exit(1);
+}

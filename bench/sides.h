@@ -1,0 +1,40 @@
+/* The two sides that are compared: the calls of include/pcf8820.h and the model's. */
+#ifndef SIDES_H
+#define SIDES_H
+
+#include <stddef.h>
+#include <stdint.h>
+
+enum { WORDS = 35, PLACES = 1717, MOST_OUT = 1 << 18 };
+
+struct calls {
+    uint64_t (*step)(uint64_t *, size_t, uint8_t *, size_t, uint64_t *, size_t, uint16_t);
+    uint64_t (*run)(uint64_t *, size_t, uint8_t *, size_t, uint64_t *, size_t,
+                    const uint16_t *, size_t, uint64_t *);
+    uint64_t (*glass)(const uint64_t *, size_t, const uint8_t *, size_t, uint64_t, uint64_t);
+    uint64_t (*compile)(const uint64_t *, size_t, const uint8_t *, size_t, uint16_t *, size_t,
+                        uint64_t *, uint64_t *, uint64_t *);
+};
+
+/* What a side works on, and a sum over all that it gave back. */
+struct side {
+    const struct calls *calls;
+    uint64_t record[WORDS];
+    uint8_t memory[PLACES];
+    uint64_t writers[PLACES];
+    uint16_t out[MOST_OUT];
+    uint64_t sum;
+};
+
+extern struct side library, model;
+
+/* The reset record, both memories and the output 0. */
+void clear(struct side *side);
+
+/* A record that shows levels, and a random memory, the same on both sides. */
+void light_up(void);
+
+/* Ends the program if the two sides do not stand alike. */
+void must_agree(const char *name);
+
+#endif

@@ -1,0 +1,103 @@
+/* A small host: it draws, plays the drawing on a chip, and asks what the glass shows and who wrote it.
+ *
+ * Build and run, from the project's root:
+ *
+ *   rt staticlib host && gcc -Iinclude examples/host.c target/staticlib/libhost.a -o target/example
+ *   target/example
+ */
+#include "pcf8820.h"
+
+#include <stdio.h>
+#include <stdlib.h>
+#include <string.h>
+
+enum { WORDS = 35, PLACES = 1717, MOST_EVENTS = 1000 };
+
+/* All that a chip is made of. The host lends it to each call. */
+static uint64_t record[WORDS];
+static uint8_t memory[PLACES];
+static uint64_t writers[PLACES];
+
+static uint16_t events[MOST_EVENTS];
+
+/* Display on, each value in its own grey register, a box in grey 1, a bar in grey 3, two ramps. */
+static const char drawing[] =
+    "set\tpd\t0\n"
+    "set\tdof\t0\n"
+    "set\td\t1\n"
+    "set\tgs1\t20\n"
+    "set\tgs2\t41\n"
+    "set\tgs3\t63\n"
+    "fill\t1\t22\t1\t2\t85\n"
+    "fill\t4\t8\t1\t2\t255\n"
+    "put\t12\t1\t228\n"
+    "put\t13\t1\t27\n";
+
+/* Anything but 0 is a refusal. */
+static void must(const char *call, uint64_t result)
+{
+    if (result == 0)
+        return;
+    fprintf(stderr, "%s: refused by %llu\n", call, (unsigned long long)result);
+    exit(1);
+}
+
+/* A drawing list becomes bus events for the chip as it stands. */
+static uint64_t compile(void)
+{
+    uint64_t length, clocks, line;
+    uint64_t result = pcf8820_compile(record, WORDS, (const uint8_t *)drawing, strlen(drawing),
+                                      events, MOST_EVENTS, &length, &clocks, &line);
+    if (line != 0)
+        fprintf(stderr, "line %llu of the drawing is bad\n", (unsigned long long)line);
+    must("compile", result);
+    printf("%llu events, %llu clocks\n", (unsigned long long)length, (unsigned long long)clocks);
+    return length;
+}
+
+static void play(uint64_t length)
+{
+    uint64_t done;
+    must("run", pcf8820_run(record, WORDS, memory, PLACES, writers, PLACES, events, length, &done));
+}
+
+/* 256 is dark, 257 undriven, 512 and above a level of 0 to 63. */
+static char shown(uint64_t row, uint64_t column)
+{
+    uint64_t pixel = pcf8820_glass(record, WORDS, memory, PLACES, row, column);
+    if (pixel < 512)
+        return '?';
+    return " .:+#"[(pixel - 512 + 15) / 16];
+}
+
+static void print_corner(uint64_t rows, uint64_t columns)
+{
+    for (uint64_t row = 0; row < rows; row++) {
+        for (uint64_t column = 0; column < columns; column++)
+            putchar(shown(row, column));
+        putchar('\n');
+    }
+}
+
+/* The first event since the chip's reset has the number 1; 0 stands for none. */
+static void print_writer(uint64_t row, uint64_t column)
+{
+    uint64_t place = pcf8820_place(record, WORDS, row, column) - 512;
+    uint64_t writer = writers[place];
+    printf("row %llu, column %llu: ", (unsigned long long)row, (unsigned long long)column);
+    if (writer == 0)
+        printf("never written\n");
+    else
+        printf("event %llu, byte %u\n", (unsigned long long)writer, events[writer - 1]);
+}
+
+int main(void)
+{
+    must("reset", pcf8820_reset(record, WORDS, 0));
+    play(compile());
+    print_corner(14, 24);
+    print_writer(5, 12);
+    print_writer(8, 6);
+    print_writer(0, 0);
+    return 0;
+}

@@ -1,0 +1,21 @@
+/* Captures played on a chip, from the paper alone. A capture is read once, from front to end, and
+ * may be of any length. */
+#ifndef CAPTURE_H
+#define CAPTURE_H
+
+#include "words.h"
+
+#include <stdint.h>
+#include <stdio.h>
+
+/* The chip after a capture. */
+struct played {
+    uint64_t record[WORDS];
+    uint8_t memory[PLACES];
+    uint64_t writers[PLACES];
+};
+
+/* Gives 0, or the number of the first bad line. After a bad line the rest is not read. */
+uint64_t play_capture(FILE *file, struct played *played);
+
+#endif

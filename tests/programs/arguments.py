@@ -1,0 +1,85 @@
+"""Themes of the arguments: files by name, files that cannot be read, wrong calls."""
+import os
+import tempfile
+
+import captures
+import lists
+import texts
+
+CAPTURE = texts.capture(captures.GOOD)
+LIST = lists.LIT + b"put\t5\t2\t167\n"
+READERS = (["replay"], CAPTURE), (["view"], CAPTURE), (["draw", "1"], LIST)
+
+
+def files(sides):
+    """A file that is named is read, and standard input is not."""
+    with tempfile.TemporaryDirectory() as directory:
+        for name in ("input", "with blank", "-", "0", "--help", "gr\u00fcn"):
+            path = os.path.join(directory, name)
+            for words, content in READERS:
+                for data in (content, content[:-1], b"", content + b"999\n"):
+                    with open(path, "wb") as file:
+                        file.write(data)
+                    sides.same(words + [path], b"261\n")
+
+
+def large_files(sides):
+    """Files longer than a buffer, and a list that is too long."""
+    with tempfile.TemporaryDirectory() as directory:
+        path = os.path.join(directory, "input")
+        for words, data in ((["replay"], CAPTURE + b"257\n" * 100000), (["view"], CAPTURE * 3000),
+                            (["draw", "2"], LIST * 500), (["draw", "2"], b"\n" * lists.MOST_BYTES),
+                            (["draw", "2"], b"\n" * (lists.MOST_BYTES + 1))):
+            with open(path, "wb") as file:
+                file.write(data)
+            sides.same(words + [path])
+
+
+def relative_files(sides):
+    """Names that might be taken for options stand for files too."""
+    here = os.getcwd()
+    with tempfile.TemporaryDirectory() as directory:
+        os.chdir(directory)
+        try:
+            for name in ("-", "-x", "3"):
+                for words, content in READERS:
+                    sides.same(words + ["./" + name], content)
+                    with open(name, "wb") as file:
+                        file.write(content)
+                    sides.same(words + [name], b"")
+                    os.remove(name)
+        finally:
+            os.chdir(here)
+
+
+def unreadable(sides):
+    """Missing files, directories, and files without leave to read them where that holds."""
+    with tempfile.TemporaryDirectory() as directory:
+        locked = os.path.join(directory, "locked")
+        with open(locked, "wb") as file:
+            file.write(CAPTURE)
+        os.chmod(locked, 0)
+        missing = os.path.join(directory, "missing")
+        for words, content in READERS:
+            for path in (missing, directory, "", os.path.join(locked, "below")):
+                sides.same(words + [path], content)
+            if not os.access(locked, os.R_OK):
+                sides.same(words + [locked], content)
+
+
+def wrong_calls(sides):
+    """Too many words, none where pins are wanted, pins that are none."""
+    with tempfile.TemporaryDirectory() as directory:
+        path = os.path.join(directory, "input")
+        with open(path, "wb") as file:
+            file.write(LIST)
+        for words in (["replay", path, path], ["view", path, path], ["draw"], ["draw", "0", path, path],
+                      ["replay", path, ""], ["view", "a", "b", "c"]):
+            sides.same(words, CAPTURE)
+        for pins in ("4", "00", "01", "03", "", " 0", "0 ", "-1", "+1", "x", "0x1", "10", "255", "256",
+                     "260", "4294967296", "18446744073709551616", "pins", path):
+            sides.same(["draw", pins], LIST)
+            sides.same(["draw", pins, path], b"")
+
+
+THEMES = [wrong_calls, files, large_files, relative_files, unreadable]

@@ -1,0 +1,147 @@
+"""Runs a program and the model's program of the same name on the same input, and compares them.
+
+What is asked of a program, by what the model does:
+
+- the model ends with status 0: the output is the model's, byte by byte; where it is no refusal, the
+  status is 0 and nothing stands on standard error;
+- the model gives up: there is no crash, no output, and exactly one line on standard error; the status
+  is not 0 where that is asked for. (It is not asked of a Rattle program: it ends with 0 whenever its
+  `main` returns.)
+"""
+import os
+import subprocess
+import sys
+import time
+
+SECONDS = 120
+
+
+class Difference(Exception):
+    pass
+
+
+class Done:
+    """What a program left: its status, its output and what it said on standard error."""
+
+    def __init__(self, status, output, said):
+        self.status, self.output, self.said = status, output, said
+
+
+def finish(process, data):
+    try:
+        output, said = process.communicate(data, timeout=SECONDS)
+    except subprocess.TimeoutExpired:
+        process.kill()
+        raise Difference(f"no end after {SECONDS} s")
+    return Done(process.returncode, output, said)
+
+
+def begin(words, stdin=subprocess.PIPE):
+    return subprocess.Popen(words, stdin=stdin, stdout=subprocess.PIPE, stderr=subprocess.PIPE)
+
+
+def run(words, data):
+    return finish(begin(words), data)
+
+
+def run_in_pieces(words, data, pieces):
+    """The input comes in pieces, with a little time between them, so that reads are short."""
+    process = begin(words)
+    for piece in pieces(data):
+        try:
+            os.write(process.stdin.fileno(), piece)
+        except BrokenPipeError:
+            break
+        time.sleep(0.0005)
+    return finish(process, b"")
+
+
+def run_piped(first, second, data):
+    """FIRST | SECOND: what SECOND leaves."""
+    source = begin(first)
+    sink = begin(second, stdin=source.stdout)
+    source.stdout.close()
+    try:
+        source.stdin.write(data)
+        source.stdin.close()
+    except BrokenPipeError:
+        pass
+    done = finish(sink, None)
+    source.wait()
+    source.stderr.close()
+    return done
+
+
+def shown(data):
+    return repr(data[:300]) + (f" and {len(data) - 300} bytes more" if len(data) > 300 else "")
+
+
+def difference(ours, theirs, with_status):
+    """What is wrong with ours, or None."""
+    if theirs.status != 0:
+        if ours.status < 0 or (with_status and ours.status == 0):
+            return f"status {ours.status} for a call that has to fail"
+        if ours.output:
+            return f"output {shown(ours.output)} of a call that has to fail"
+        if ours.said.count(b"\n") != 1 or not ours.said.endswith(b"\n") or len(ours.said) < 2:
+            return f"not one line on standard error: {shown(ours.said)}"
+        return None
+    if ours.output != theirs.output:
+        return f"output\n  {shown(ours.output)}\nand not\n  {shown(theirs.output)}"
+    if not theirs.output.startswith(b"refused\t") and (ours.status != 0 or ours.said):
+        return f"status {ours.status}, standard error {shown(ours.said)}"
+    return None
+
+
+class Sides:
+    """The directory of the programs and that of the model's; counts the comparisons."""
+
+    def __init__(self, programs, model, quick, with_status):
+        self.programs, self.model = programs, model
+        self.quick, self.with_status = quick, with_status
+        self.theme, self.compared = "", 0
+
+    def words(self, directory, words):
+        return [os.path.join(directory, words[0])] + words[1:]
+
+    def judge(self, what, data, ours, theirs):
+        wrong = difference(ours, theirs, self.with_status)
+        if wrong:
+            raise Difference(f"{self.theme}: {what}\ninput: {shown(data)}\n{wrong}")
+        self.compared += 1
+        return theirs
+
+    def same(self, words, data=b""):
+        """WORDS are the program's name and its arguments; DATA is its standard input."""
+        return self.judge(" ".join(words), data, run(self.words(self.programs, words), data),
+                          run(self.words(self.model, words), data))
+
+    def exactly(self, words, data, output):
+        """The same, and the output is this one, known without the model."""
+        if self.same(words, data).output != output:
+            raise Difference(f"{self.theme}: the model's {words[0]} does not print {shown(output)}")
+
+    def same_in_pieces(self, words, data, pieces):
+        return self.judge(" ".join(words) + ", in pieces", data,
+                          run_in_pieces(self.words(self.programs, words), data, pieces),
+                          run(self.words(self.model, words), data))
+
+    def same_piped(self, first, second, data):
+        both = [self.words(directory, words) for directory in (self.programs, self.model)
+                for words in (first, second)]
+        return self.judge(" ".join(first) + " | " + " ".join(second), data,
+                          run_piped(both[0], both[1], data), run_piped(both[2], both[3], data))
+
+    def sample(self, cases, count):
+        """All cases, or some of them, evenly spread, when it has to be quick."""
+        cases = list(cases)
+        if not self.quick or len(cases) <= count:
+            return cases
+        return [cases[i * len(cases) // count] for i in range(count)]
+
+
+def report(sides, error=None):
+    if error is not None:
+        print(f"programs: DIFFERENT, after {sides.compared} equal comparisons: {error}", file=sys.stderr)
+        sys.exit(1)
+    print(f"programs: {sides.compared} comparisons with the model's programs, all equal")
