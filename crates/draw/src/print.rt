@@ -1,4 +1,7 @@
 // What is printed: a capture's lines, or why the compiler refuses the list.
+ghost use mathlib.Core.Path.{_≡_};
+ghost use Rattle.text.specs.Printed.{Wrote};
+ghost use Rattle.draw.specs.Lines.{eventsText};
 use libc::STDOUT_FILENO;
 
 const TAB: u8 = 9;
@@ -27,14 +30,28 @@ pub fn first_line(pins: u8) {
     put(&out, length);
 }
 
-// One event a line. Those of a line of the list, at most 2,727 of three digits, have room.
-pub fn events(events: &[u16]) {
-    let mut out = [0u8; 10908];
+fn number(event: u16) -> u64
+    ensures { λ r. ⌜ r ≡ event ⌝ }
+{
+    event as u64
+}
+
+// One event a line.
+fn lines(events: &[u16], out: &mut [u8]) -> usize
+    ensures { λ r. ⌜ Wrote (now (out .entry)) 0 (eventsText (now (events .entry))) (now (out .exit)) r ⌝ }
+{
     let mut at = 0;
     let mut i = 0;
     while i < events.len() {
-        at = text::print::field(events[i] as u64, NEWLINE, &mut out, at);
+        at = text::print::field(number(events[i]), NEWLINE, out, at);
         i += 1;
     }
-    put(&out, at);
+    at
+}
+
+// The events of a line of the list, at most 2,727 of three digits: they have room.
+pub fn events(events: &[u16]) {
+    let mut out = [0u8; 10908];
+    let length = lines(events, &mut out);
+    put(&out, length);
 }

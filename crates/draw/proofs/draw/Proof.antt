@@ -1,0 +1,65 @@
+use mathlib.Core.Path.{_≡_, refl}
+use Prim.Native.Nat.{_-_}
+use lib.ListN.{length}
+use native.Mathlib.Omega.{arith}
+use Rattle.lists.proofs.Positions.{reading-next}
+use borrow.Author.Needs.{needs}
+use Rattle.draw.proofs.draw.Statement.{statement}
+use Rattle.draw.proofs.draw.Tie as tie
+
+abbrev Inv-loop : tie.InvT-loop
+Inv-loop list memory₀ writers₀ now₀ at₀ memory writers now at = (length memory ≡ length memory₀) × (length writers ≡ length writers₀)
+
+abbrev μ-loop : tie.MeasureT-loop
+μ-loop list memory₀ writers₀ now₀ at₀ memory writers now at = length list - at
+
+loop-holds : tie.Need-loop-holds Inv-loop μ-loop
+loop-holds c = (refl, refl)
+
+line-at-requires : tie.Need-line-at-requires Inv-loop μ-loop
+line-at-requires c κs = search needs
+
+sub-draw-line : tie.Need-sub-draw-line Inv-loop μ-loop
+sub-draw-line c = omega (arith, reading-next _ _ 1 (c .before .loop-test .taken) _ (c .line-at .ensures))
+
+part-draw-line-start : tie.Need-part-draw-line-start Inv-loop μ-loop
+part-draw-line-start c = omega (arith, reading-next _ _ 1 (c .before .loop-test .taken) _ (c .line-at .ensures))
+
+part-draw-line-end : tie.Need-part-draw-line-end Inv-loop μ-loop
+part-draw-line-end c = omega (arith, reading-next _ _ 1 (c .before .loop-test .taken) _ (c .line-at .ensures))
+
+draw-line-requires : tie.Need-draw-line-requires Inv-loop μ-loop
+draw-line-requires c κs = search needs
+
+loop-less : tie.Need-loop-less Inv-loop μ-loop
+loop-less c = omega (arith, c .before .before .before .before .before .before .before .before .before .loop-test .taken, reading-next _ _ 1 (c .before .before .before .before .before .before .before .before .before .loop-test .taken) _ (c .before .before .before .before .before .before .before .before .line-at .ensures))
+
+loop-again : tie.Need-loop-again Inv-loop μ-loop
+loop-again c = (search needs, search needs)
+
+same-length : tie.Need-same-length Inv-loop μ-loop
+same-length c = search needs
+
+same-length-2 : tie.Need-same-length-2 Inv-loop μ-loop
+same-length-2 c = search needs
+
+returns : tie.Need-returns Inv-loop μ-loop
+returns c = search needs
+
+pub draw-spec : {M : Type 1} → statement M
+draw-spec =
+    tie.close
+    (tie.spec
+    Inv-loop
+    μ-loop
+    loop-holds
+    line-at-requires
+    sub-draw-line
+    part-draw-line-start
+    part-draw-line-end
+    draw-line-requires
+    loop-less
+    loop-again
+    same-length
+    same-length-2
+    returns)

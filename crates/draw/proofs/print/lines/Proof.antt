@@ -1,0 +1,77 @@
+use mathlib.Core.Path.{_≡_, refl}
+use mathlib.Core.List.{List}
+use Prim.Native.Nat.{ℕ, _-_, _≤_}
+use denote.Ref.{now}
+use lib.ListN.{length}
+use native.Mathlib.Omega.{arith}
+use Rattle.text.specs.Printed.{top, Wrote, partsFrom}
+use Rattle.text.proofs.Writing.{wrote-next}
+use Rattle.draw.specs.Lines.{eventLine, eventsText}
+use Rattle.draw.proofs.Turns.{all-left, event-turn, none-left}
+use borrow.Author.Needs.{needs}
+use Rattle.draw.proofs.print.lines.Statement.{statement}
+use Rattle.draw.proofs.print.lines.Tie as tie
+
+abbrev Inv-loop : tie.InvT-loop
+Inv-loop events out₀ at₀ i₀ out at i =
+    (i ≤ length events)
+    × (at ≤ top)
+    × (length out ≡ length out₀)
+    × ((l : List ℕ) (j : ℕ) → Wrote out at (partsFrom (eventLine events) i (length events - i)) l j → Wrote out₀ 0 (eventsText events) l j)
+
+abbrev μ-loop : tie.MeasureT-loop
+μ-loop events out₀ at₀ i₀ out at i = length events - i
+
+loop-holds : tie.Need-loop-holds Inv-loop μ-loop
+loop-holds c = (search needs, search needs, refl, λ l j w. all-left (now (c .before .before .args .events)) w)
+
+mul-number : tie.Need-mul-number Inv-loop μ-loop
+mul-number c = search needs
+
+shared-slice-read-number : tie.Need-shared-slice-read-number Inv-loop μ-loop
+shared-slice-read-number c = search needs
+
+number-requires : tie.Need-number-requires Inv-loop μ-loop
+number-requires c κs = search needs
+
+field-requires : tie.Need-field-requires Inv-loop μ-loop
+field-requires c κs = search needs
+
+add-i : tie.Need-add-i Inv-loop μ-loop
+add-i c = search needs
+
+loop-less : tie.Need-loop-less Inv-loop μ-loop
+loop-less c = search needs
+
+loop-again : tie.Need-loop-again Inv-loop μ-loop
+loop-again c = (
+  search needs,
+  wrote-next (c .before .before .field .ensures),
+  search needs,
+  λ l j w.
+      c .before .before .before .before .before .before .before .loop .inv .3 l j
+      (event-turn (now (c .before .before .before .before .before .before .before .before .before .before .args .events)) _ _ (c .before .before .before .before .before .before .loop-test .taken) (omega arith) (c .before .before .before .before .number .ensures) (c .before .before .field .ensures) w),
+)
+
+same-length : tie.Need-same-length Inv-loop μ-loop
+same-length c = search needs
+
+returns : tie.Need-returns Inv-loop μ-loop
+returns c = c .before .loop .inv .3 _ _ (none-left (now (c .before .before .before .before .args .events)) _ _ _ (c .before .loop .inv .1) (c .loop-test .left))
+
+pub lines-spec : {M : Type 1} → statement M
+lines-spec =
+    tie.close
+    (tie.spec
+    Inv-loop
+    μ-loop
+    loop-holds
+    mul-number
+    shared-slice-read-number
+    number-requires
+    field-requires
+    add-i
+    loop-less
+    loop-again
+    same-length
+    returns)
