@@ -4,11 +4,13 @@ use mathlib.Core.List.{List, [], _∷_}
 use Prim.Native.Nat.{ℕ, _+_, _-_}
 use lib.Dec.{ltb}
 use lib.ListN.{length, take, drop}
+use denote.Ref.{RefT, now}
 use Rattle.text.specs.Text.{split, countOf, findOf}
 use Rattle.lists.specs.declared.Line.{Line}
 use Rattle.lists.specs.declared.LineAt.{LineAt}
 use Rattle.lists.specs.declared.Parsed.{Parsed}
 use Rattle.lists.specs.declared.Parsed.the-variants.{Good, Bad}
+use Rattle.lists.specs.declared.reader.Reader.{Reader}
 use Rattle.lists.specs.Line.{lineOf}
 
 abbrev pub newline : ℕ
@@ -60,3 +62,17 @@ lineUpTo end text at =
 -- the line that starts at `at`, up to the next newline, and the place after that; 6 where no newline follows
 unfoldable pub lineAt : List ℕ → ℕ → LineAt
 lineAt text at = lineUpTo (findOf text at newline) text at
+
+-- ---- the reader: a lent text, and a place in it
+
+-- as it is made
+abbrev pub atStart : RefT (List ℕ) → Reader
+atStart text = record { text = text; at = 0 }
+
+-- at another place of the same text
+abbrev pub movedTo : Reader → ℕ → Reader
+movedTo r at = record { text = r .text; at = at }
+
+-- what it gives where it stands
+abbrev pub lineHere : Reader → LineAt
+lineHere r = lineAt (now (r .text)) (r .at)

@@ -1,8 +1,9 @@
-// Drawing lists: one line as its text says it, and the line at a place of a text.
+// Drawing lists: one line as its text says it, the reader of a list, and the line at a place of a text.
 ghost use mathlib.Core.Path.{_≡_};
 ghost use Rattle.lists.specs.Lists.{lineAt};
 
 pub mod grammar;
+pub mod reader;
 
 // What a line asks for. `put` is a fill of one cell. A register is given by its place in the record's order.
 pub enum Line {
@@ -31,22 +32,9 @@ pub struct LineAt {
     pub next: usize,
 }
 
-const NEWLINE: u8 = 10;
-
-// The line that starts at `at`, up to the next newline. Where no newline follows it is 6, and the text is at its end.
+// The line of the reader of this text at this place. Whoever calls it passes plain numbers and slices, and needs no proof by hand.
 pub fn line_at(text: &[u8], at: usize) -> LineAt
     ensures { λ r. ⌜ r ≡ lineAt (now (text .entry)) at ⌝ }
 {
-    let end = text::search::find(text, at, NEWLINE);
-    if end < text.len() {
-        let parsed = grammar::line(&text[at..end]);
-        return LineAt {
-            parsed,
-            next: end + 1,
-        };
-    }
-    LineAt {
-        parsed: Parsed::Bad(6),
-        next: text.len(),
-    }
+    reader::line(reader::moved(reader::new(text), at))
 }
