@@ -37,11 +37,15 @@ fn is_good(chip: Chip, list: &[u8]) -> bool {
     false
 }
 
-// One line's events, printed and played: the next line is compiled for the registers that they leave. No line has more than 2,727 events, those of
-// a fill of the whole glass column by column.
-fn draw_line(chip: Chip, line: &[u8], memory: &mut [u8], writers: &mut [u64]) -> Chip {
-    let mut out = [0u16; 2727];
-    let told = compiler::compile(chip, line, &mut out).numbers();
+// One line's events, printed and played: the next line is compiled for the registers that they leave.
+fn draw_line(
+    chip: Chip,
+    line: &[u8],
+    out: &mut [u16],
+    memory: &mut [u8],
+    writers: &mut [u64],
+) -> Chip {
+    let told = compiler::compile(chip, line, out).numbers();
     let n = told.length as usize;
     if told.number != 0 {
         return chip;
@@ -54,30 +58,32 @@ fn draw_line(chip: Chip, line: &[u8], memory: &mut [u8], writers: &mut [u64]) ->
 }
 
 // Line by line, so that the stream of a long list, millions of events, is never held as a whole.
-fn draw(chip: Chip, list: &[u8], memory: &mut [u8], writers: &mut [u64]) {
+fn draw(chip: Chip, list: &[u8], out: &mut [u16], memory: &mut [u8], writers: &mut [u64]) {
     let mut now = chip;
     let mut at = 0;
     while at < list.len() {
         let next = lists::line_at(list, at).next;
-        now = draw_line(now, &list[at..next], memory, writers);
+        now = draw_line(now, &list[at..next], out, memory, writers);
         at = next;
     }
 }
 
+// No line has more than 2,727 events, those of a fill of the whole glass column by column.
 fn draw_good(chip: Chip, list: &[u8]) {
+    let mut out = [0u16; 2727];
     let mut memory = [0u8; 1717];
     let mut writers = [0u64; 1717];
     if is_good(chip, list) {
         print::first_line(chip.pins);
-        draw(chip, list, &mut memory, &mut writers);
+        draw(chip, list, &mut out, &mut memory, &mut writers);
     }
 }
 
-fn draw_from(fd: i32, pins: u8) {
-    let mut list = [0u8; 1048576];
-    let n = io::read_full(fd, &mut list);
+// The whole list is read into `room`; one that does not fit is refused.
+fn draw_from(fd: i32, pins: u8, room: &mut [u8]) {
+    let n = io::read_full(fd, room);
     if input::ended(fd) {
-        draw_good(Chip::reset(pins), &list[..n]);
+        draw_good(Chip::reset(pins), &room[..n]);
     }
 }
 
@@ -92,5 +98,6 @@ fn main() {
     if fd < 0 {
         return;
     }
-    draw_from(fd, pins);
+    let mut room = [0u8; 1048576];
+    draw_from(fd, pins, &mut room);
 }

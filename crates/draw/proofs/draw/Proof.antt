@@ -8,13 +8,14 @@ use Rattle.draw.proofs.draw.Statement.{statement}
 use Rattle.draw.proofs.draw.Tie as tie
 
 abbrev Inv-loop : tie.InvT-loop
-Inv-loop list memory₀ writers₀ now₀ at₀ memory writers now at = (length memory ≡ length memory₀) × (length writers ≡ length writers₀)
+Inv-loop list out₀ memory₀ writers₀ now₀ at₀ out memory writers now at =
+    (length out ≡ length out₀) × (length memory ≡ length memory₀) × (length writers ≡ length writers₀)
 
 abbrev μ-loop : tie.MeasureT-loop
-μ-loop list memory₀ writers₀ now₀ at₀ memory writers now at = length list - at
+μ-loop list out₀ memory₀ writers₀ now₀ at₀ out memory writers now at = length list - at
 
 loop-holds : tie.Need-loop-holds Inv-loop μ-loop
-loop-holds c = (refl, refl)
+loop-holds c = (refl, refl, refl)
 
 line-at-requires : tie.Need-line-at-requires Inv-loop μ-loop
 line-at-requires c κs = search needs
@@ -32,16 +33,19 @@ draw-line-requires : tie.Need-draw-line-requires Inv-loop μ-loop
 draw-line-requires c κs = search needs
 
 loop-less : tie.Need-loop-less Inv-loop μ-loop
-loop-less c = omega (arith, c .before .before .before .before .before .before .before .before .before .loop-test .taken, reading-next _ _ 1 (c .before .before .before .before .before .before .before .before .before .loop-test .taken) _ (c .before .before .before .before .before .before .before .before .line-at .ensures))
+loop-less c = omega (arith, c .before .before .before .before .before .before .before .before .before .before .before .before .loop-test .taken, reading-next _ _ 1 (c .before .before .before .before .before .before .before .before .before .before .before .before .loop-test .taken) _ (c .before .before .before .before .before .before .before .before .before .before .before .line-at .ensures))
 
 loop-again : tie.Need-loop-again Inv-loop μ-loop
-loop-again c = (search needs, search needs)
+loop-again c = (search needs, search needs, search needs)
 
 same-length : tie.Need-same-length Inv-loop μ-loop
 same-length c = search needs
 
 same-length-2 : tie.Need-same-length-2 Inv-loop μ-loop
 same-length-2 c = search needs
+
+same-length-3 : tie.Need-same-length-3 Inv-loop μ-loop
+same-length-3 c = search needs
 
 returns : tie.Need-returns Inv-loop μ-loop
 returns c = search needs
@@ -62,4 +66,5 @@ draw-spec =
     loop-again
     same-length
     same-length-2
+    same-length-3
     returns)
