@@ -11,6 +11,9 @@ use Rattle.text.specs.Printed.{decimalOf}
 use Rattle.listing.specs.Listing.{Row, rowsFrom, rowsOf, listingOf}
 use Rattle.listing.specs.Order.{Listed, InOrder}
 use Rattle.listing.proofs.Rows.{in-rows, rows-have, in-order, from-listed, listed-row}
+-- how long the two texts are at most, and exactly when the listing is refused
+pub use Rattle.listing.proofs.Lines.{listing-bound, refused-bound}
+pub use Rattle.listing.proofs.Refusals.{accepted-exactly, refused-exactly}
 
 module _ (memory writers : List ℕ) where
   -- by bank, then column, and no cell twice
@@ -27,7 +30,8 @@ module _ (memory writers : List ℕ) where
       go n e = (
         λ m. from-listed memory writers (0 + n) r (omega arith) (in-rows memory writers n 0 r m),
         λ h. subst (λ (q : Row). List·Memᴰ q (rowsFrom memory writers 0 n)) (listed-row memory writers r h)
-            (rows-have memory writers n 0 (101 * r .bank + r .column) (omega arith) (omega (arith, h .column-there, h .bank-there)) (λ z. h .written (sym (h .writer) ∙ z))),
+            (rows-have memory writers n 0 (101 * r .bank + r .column) (omega arith) (omega (arith, h .column-there, h .bank-there))
+            (λ z. h .written (sym (h .writer) ∙ z))),
       )
 
 -- the listing that document 01 gives whole: one cell, byte 167 in column 5 of bank 2, written by event 10

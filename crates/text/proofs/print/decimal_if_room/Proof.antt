@@ -35,9 +35,10 @@ same-length c = search needs
 
 returns-3 : tie.Need-returns-3
 returns-3 c =
-    let start = c .before .before .before .before .before .before .before .before .before .before in
-    let few = decimal-bound 19 (start .args .n + start .args .k) (omega arith) in
-    with-room _ _ (omega arith) (c .before .before .before .before .before .before .before .decimal-plus .ensures) (omega arith) (omega arith) (c .before .before .decimal-plus2 .ensures)
+    let tested = c .before .before .before .before in
+    let args = tested .before .before .before .before .before .before .args in
+    let few = decimal-bound 19 (args .n + args .k) (omega arith) in
+    with-room _ _ (omega arith) (tested .before .before .before .decimal-plus .ensures) (omega arith) (omega arith) (c .before .before .decimal-plus2 .ensures)
 
 pub decimal-if-room-spec : {M : Type 1} → statement M
 decimal-if-room-spec =
