@@ -7,7 +7,7 @@ use mathlib.Core.Logic.{inl, inr, ⊎-elim}
 use Prim.Native.Nat.{ℕ, zero, suc, _+_, _*_, _/_, _%_, _≤_, _<_}
 use native.Mathlib.Decide.{decLt}
 use native.Mathlib.Omega.{arith}
-use borrow.Author.Tests.{ne-eqb, eqb-false}
+use borrow.Author.Tests.{eq-eqb, ne-eqb, eqb-false}
 use lib.Dec.{eqb}
 use lib.ListN.{getD}
 use Rattle.listing.specs.Listing.{Row, row, rowAt, rowsFrom}
@@ -61,6 +61,28 @@ module _ (memory writers : List ℕ) where
           let same : p ≡ k = omega arith in
           Memᴰ·append-left (rowsFrom memory writers (k + 1) n)
           (subst (λ (q : ℕ). List·Memᴰ (rowOf memory writers p) (rowAt memory writers q)) same (here p w))
+
+  -- ---- where one cell alone has a writer
+
+  none-written : (n k : ℕ) → ((q : ℕ) → k ≤ q → getD writers q 0 ≡ 0) → rowsFrom memory writers k n ≡ []
+  none-written zero k h = refl
+  none-written (suc n) k h = rw (eq-eqb (getD writers k 0) 0 (h k (omega arith))) (none-written n (k + 1) (λ q l. h q (omega arith)))
+
+  pub only-one :
+      (n k p : ℕ) → k ≤ p → p < k + n → (getD writers p 0 ≡ 0 → ⊥) → ((q : ℕ) → (q ≡ p → ⊥) → getD writers q 0 ≡ 0)
+      → rowsFrom memory writers k n ≡ rowOf memory writers p ∷ []
+  only-one zero k p l h w others = absurd (omega arith)
+  only-one (suc n) k p l h w others = go (decLt k p) (only-one n (k + 1) p)
+    where
+      go :
+          Dec (k < p)
+          → (k + 1 ≤ p → p < k + 1 + n → (getD writers p 0 ≡ 0 → ⊥) → ((q : ℕ) → (q ≡ p → ⊥) → getD writers q 0 ≡ 0)
+          → rowsFrom memory writers (k + 1) n ≡ rowOf memory writers p ∷ [])
+          → rowsFrom memory writers k (suc n) ≡ rowOf memory writers p ∷ []
+      go (yes s) rest = rw (eq-eqb (getD writers k 0) 0 (others k (λ e. omega arith))) (rest (omega arith) (omega arith) w others)
+      go (no s) rest =
+          let same : k ≡ p = omega arith in
+          rw (same, ne-eqb (getD writers p 0) 0 w, none-written n (p + 1) (λ q m. others q (λ e. omega arith)))
 
   -- ---- in order
 
