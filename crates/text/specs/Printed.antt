@@ -40,6 +40,7 @@ wellLed [] = false
 wellLed (d ∷ []) = true
 wellLed (d ∷ e ∷ ds) = isLeading d
 
+-- the digits ds are the number n as document 01 writes it, of any length
 pub record Spells (ds : List ℕ) (n : ℕ) : Type 0 where
   pub digits : allDigits ds ≡ true
   pub well-led : wellLed ds ≡ true
