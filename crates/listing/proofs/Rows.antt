@@ -1,12 +1,13 @@
 -- The rows of the listing, place by place.
 use mathlib.Core.Path.{_≡_, refl, sym, ap, subst}
 use mathlib.Core.Bool.{Bool, true, false, cond}
-use mathlib.Core.List.{List, [], _∷_, _++_, List·Memᴰ, List·Memᴰ·head, List·Memᴰ·append-cases, List·Memᴰ·not-nil, List·Memᴰ·eq-of-singleton, Memᴰ·append-left, Memᴰ·append-right}
+use mathlib.Core.List.{List, [], _∷_, _++_, List·Memᴰ, List·Memᴰ·head, List·Memᴰ·not-nil, List·Memᴰ·eq-of-singleton}
+use mathlib.Core.List.{List·Memᴰ·append-cases, Memᴰ·append-left, Memᴰ·append-right}
 use mathlib.Core.Logic.{inl, inr, ⊎-elim}
 use Prim.Native.Nat.{ℕ, zero, suc, _+_, _*_, _/_, _%_, _≤_, _<_}
 use native.Mathlib.Decide.{decLt}
 use native.Mathlib.Omega.{arith}
-use borrow.Author.Tests.{ne-eqb, eqb-false}
+use borrow.Author.Tests.{eq-eqb, ne-eqb, eqb-false}
 use lib.Dec.{eqb}
 use lib.ListN.{getD}
 use Rattle.listing.specs.Listing.{Row, row, rowAt, rowsFrom}
@@ -35,7 +36,8 @@ module _ (memory writers : List ℕ) where
 
   pub in-rows : (n k : ℕ) (r : Row) → List·Memᴰ r (rowsFrom memory writers k n) → From memory writers k (k + n) r
   in-rows zero k r m = absurd (List·Memᴰ·not-nil m)
-  in-rows (suc n) k r m = ⊎-elim (λ here. widen (in-row k r here)) (λ later. later-on (in-rows n (k + 1) r later)) (List·Memᴰ·append-cases (rowAt memory writers k) m)
+  in-rows (suc n) k r m =
+      ⊎-elim (λ here. widen (in-row k r here)) (λ later. later-on (in-rows n (k + 1) r later)) (List·Memᴰ·append-cases (rowAt memory writers k) m)
     where
       widen : From memory writers k (k + 1) r → From memory writers k (k + suc n) r
       widen f = record { place = f .place; low = f .low; high = omega (arith, f .high); written = f .written; same = f .same }
@@ -50,11 +52,37 @@ module _ (memory writers : List ℕ) where
       here : (q : ℕ) → (getD writers q 0 ≡ 0 → ⊥) → List·Memᴰ (rowOf memory writers q) (rowAt memory writers q)
       here q u = rw (ne-eqb (getD writers q 0) 0 u) (List·Memᴰ·head refl)
 
-      go : Dec (k < p) → (k + 1 ≤ p → p < k + 1 + n → (getD writers p 0 ≡ 0 → ⊥) → List·Memᴰ (rowOf memory writers p) (rowsFrom memory writers (k + 1) n)) → List·Memᴰ (rowOf memory writers p) (rowAt memory writers k ++ rowsFrom memory writers (k + 1) n)
+      go :
+          Dec (k < p)
+          → (k + 1 ≤ p → p < k + 1 + n → (getD writers p 0 ≡ 0 → ⊥) → List·Memᴰ (rowOf memory writers p) (rowsFrom memory writers (k + 1) n))
+          → List·Memᴰ (rowOf memory writers p) (rowsFrom memory writers k (suc n))
       go (yes s) rest = Memᴰ·append-right (rowAt memory writers k) (rest (omega arith) (omega arith) w)
       go (no s) rest =
           let same : p ≡ k = omega arith in
-          Memᴰ·append-left (rowsFrom memory writers (k + 1) n) (subst (λ (q : ℕ). List·Memᴰ (rowOf memory writers p) (rowAt memory writers q)) same (here p w))
+          Memᴰ·append-left (rowsFrom memory writers (k + 1) n)
+          (subst (λ (q : ℕ). List·Memᴰ (rowOf memory writers p) (rowAt memory writers q)) same (here p w))
+
+  -- ---- where one cell alone has a writer
+
+  none-written : (n k : ℕ) → ((q : ℕ) → k ≤ q → getD writers q 0 ≡ 0) → rowsFrom memory writers k n ≡ []
+  none-written zero k h = refl
+  none-written (suc n) k h = rw (eq-eqb (getD writers k 0) 0 (h k (omega arith))) (none-written n (k + 1) (λ q l. h q (omega arith)))
+
+  pub only-one :
+      (n k p : ℕ) → k ≤ p → p < k + n → (getD writers p 0 ≡ 0 → ⊥) → ((q : ℕ) → (q ≡ p → ⊥) → getD writers q 0 ≡ 0)
+      → rowsFrom memory writers k n ≡ rowOf memory writers p ∷ []
+  only-one zero k p l h w others = absurd (omega arith)
+  only-one (suc n) k p l h w others = go (decLt k p) (only-one n (k + 1) p)
+    where
+      go :
+          Dec (k < p)
+          → (k + 1 ≤ p → p < k + 1 + n → (getD writers p 0 ≡ 0 → ⊥) → ((q : ℕ) → (q ≡ p → ⊥) → getD writers q 0 ≡ 0)
+          → rowsFrom memory writers (k + 1) n ≡ rowOf memory writers p ∷ [])
+          → rowsFrom memory writers k (suc n) ≡ rowOf memory writers p ∷ []
+      go (yes s) rest = rw (eq-eqb (getD writers k 0) 0 (others k (λ e. omega arith))) (rest (omega arith) (omega arith) w others)
+      go (no s) rest =
+          let same : k ≡ p = omega arith in
+          rw (same, ne-eqb (getD writers p 0) 0 w, none-written n (p + 1) (λ q m. others q (λ e. omega arith)))
 
   -- ---- in order
 
@@ -69,10 +97,13 @@ module _ (memory writers : List ℕ) where
   in-order zero k = tt
   in-order (suc n) k = go (eqb (getD writers k 0) 0) (in-order n (k + 1))
     where
+      later : (s : Row) → From memory writers (k + 1) (k + 1 + n) s → Before (rowOf memory writers k) s
+      later s f = subst (λ (q : Row). Before (rowOf memory writers k) q) (sym (f .same)) (before k (f .place) (omega (arith, f .low)))
+
       go : (t : Bool) → InOrder (rowsFrom memory writers (k + 1) n) → InOrder (cond t [] (rowOf memory writers k ∷ []) ++ rowsFrom memory writers (k + 1) n)
       go true rest = rest
       go false rest =
-          (λ s m. (let f = in-rows n (k + 1) s m in subst (λ (q : Row). Before (rowOf memory writers k) q) (sym (f .same)) (before k (f .place) (omega (arith, f .low)))), rest)
+          (λ s m. later s (in-rows n (k + 1) s m), rest)
 
   -- ---- which are listed
 

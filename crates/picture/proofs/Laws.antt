@@ -1,7 +1,7 @@
 -- What is promised of the picture, in one place: read this file first. The work stands in the file beside it.
 use mathlib.Core.Path.{_≡_, refl, sym, ap, _∙_}
-use mathlib.Core.List.{List, [], _∷_, _++_, append-assoc}
-use Prim.Native.Nat.{ℕ, _+_, _*_, _/_, _%_, _-_, _≤_, _<_}
+use mathlib.Core.List.{List, _++_, append-assoc}
+use Prim.Native.Nat.{ℕ, _+_, _*_, _-_, _≤_, _<_}
 use native.Mathlib.Omega.{arith}
 use lib.ListN.{length, getD}
 use Rattle.registers.specs.declared.Chip.{Chip}
@@ -11,13 +11,14 @@ use Rattle.glass.specs.When.{OnGlass}
 use Rattle.glass.specs.Pixel.{Pixel, pixelOf, levelOf, placeAt}
 use Rattle.glass.proofs.Refusals.{is-on}
 use Rattle.glass.proofs.Views.{never-refused}
-use Rattle.text.specs.Text.{countOf}
-use Rattle.text.specs.Printed.{decimalOf, partsFrom}
-use Rattle.text.proofs.Digits.{count-append, number-free}
+use Rattle.text.specs.Printed.{partsFrom}
+use Rattle.text.proofs.Digits.{count-append}
 use Rattle.text.proofs.Writing.{parts-split, parts-count}
-use Rattle.picture.specs.declared.Colour.{Colour}
 use Rattle.picture.specs.Picture.{grey, colourOf, pixelText, header, pixelAt, pixelCount, pixmapOf, pixmapRefusal}
 use Rattle.picture.specs.Order.{LineAt}
+use Rattle.picture.proofs.Writes.{one-line, pixel-of}
+-- how long the text is at most
+pub use Rattle.picture.proofs.Writes.{pixmap-bound}
 
 -- ---- refusals
 
@@ -37,25 +38,11 @@ darker g h l m = omega arith
 
 -- ---- pixels
 
-one-line : (a b c : List ℕ) → countOf 10 a ≡ 0 → countOf 10 b ≡ 0 → countOf 10 c ≡ 0 → countOf 10 ((a ++ 32 ∷ (b ++ 32 ∷ c)) ++ (10 ∷ [])) ≡ 1
-one-line a b c ha hb hc =
-    omega (arith, count-append 10 (a ++ 32 ∷ (b ++ 32 ∷ c)) (10 ∷ []), count-append 10 a (32 ∷ (b ++ 32 ∷ c)), count-append 10 b (32 ∷ c))
-
-pixel-line : (c : Colour) → countOf 10 (pixelText c) ≡ 1
-pixel-line c =
-    one-line (decimalOf (c .red)) (decimalOf (c .green)) (decimalOf (c .blue)) (number-free 10 (c .red) (omega arith)) (number-free 10 (c .green) (omega arith)) (number-free 10 (c .blue) (omega arith))
-
 module _ (c : Chip) (memory : List ℕ) (row column : ℕ) (on : OnGlass row column) where
-  its-line : pixelAt c memory (101 * row + column) ≡ pixelText (colourOf (glassOf c memory row column))
-  its-line =
-      let row-of : (101 * row + column) / 101 ≡ row = omega (arith, on .column-there) in
-      let column-of : (101 * row + column) % 101 ≡ column = omega (arith, on .column-there) in
-      rw (row-of, column-of)
-
   -- after the header's three lines, row by row from the top, and in a row from the left
   pub pixel-there : LineAt (pixmapOf c memory) (3 + (101 * row + column)) (pixelText (colourOf (glassOf c memory row column)))
   unfolding pixmapOf
-  pixel-there = go pixelCount (101 * row + column) refl (omega (arith, on .row-there, on .column-there)) its-line
+  pixel-there = go pixelCount (101 * row + column) refl (omega (arith, on .row-there, on .column-there)) (pixel-of c memory row column (on .column-there))
     where
       go :
           (n p : ℕ) {line : List ℕ} → n ≡ pixelCount → p < pixelCount → pixelAt c memory p ≡ line
@@ -70,7 +57,7 @@ module _ (c : Chip) (memory : List ℕ) (row column : ℕ) (on : OnGlass row col
                 ap (λ (l : List ℕ). header ++ l) (parts-split f p (n - (p + 1)) 0 p n (omega arith) (omega arith))
                 ∙ ap (λ (l : List ℕ). header ++ (partsFrom f 0 p ++ (l ++ rest))) same
                 ∙ sym (append-assoc header (partsFrom f 0 p) (line ++ rest));
-            before = count-append 10 header (partsFrom f 0 p) ∙ ap (λ (k : ℕ). 3 + k) (parts-count 10 f (λ k. pixel-line (colourOf (glassOf c memory (k / 101) (k % 101)))) p 0);
+            before = count-append 10 header (partsFrom f 0 p) ∙ ap (λ (k : ℕ). 3 + k) (parts-count 10 f (one-line c memory) p 0);
           }
 
   -- no pixel of a picture that is not refused is

@@ -1,15 +1,16 @@
 -- The lines of the picture: what is written part by part is the whole line, and how long the text is at most.
 use mathlib.Core.Path.{_≡_, refl, ap, _∙_}
 use mathlib.Core.List.{List, [], _∷_, _++_, append-assoc}
-use Prim.Native.Nat.{ℕ, _+_, _/_, _%_, _≤_, _<_}
+use Prim.Native.Nat.{ℕ, _+_, _*_, _/_, _%_, _≤_, _<_}
 use native.Mathlib.Omega.{arith}
 use lib.ListN.{length, length-append}
 use Rattle.registers.specs.declared.Chip.{Chip}
 use Rattle.glass.specs.declared.answer.Shown.{Shown}
 use Rattle.glass.specs.declared.answer.Shown.the-variants as shown
 use Rattle.glass.specs.Glass.{glassOf}
+use Rattle.text.specs.Text.{countOf}
 use Rattle.text.specs.Printed.{decimalOf, top, Wrote, partsFrom}
-use Rattle.text.proofs.Digits.{decimal-bound}
+use Rattle.text.proofs.Digits.{decimal-bound, count-append, number-free}
 use Rattle.text.proofs.Writing.{wrote-then, wrote-same, parts-bound}
 use Rattle.picture.specs.declared.Colour.{Colour}
 use Rattle.picture.specs.Picture.{grey, colourOf, pixelText, header, pixelAt, pixelCount, pixmapOf}
@@ -42,6 +43,28 @@ pub pixmap-wrote :
     → Wrote m i (partsFrom (pixelAt c memory) 0 pixelCount) r j → Wrote l 0 (pixmapOf c memory) r j
 unfolding pixmapOf
 pixmap-wrote c memory t a b = wrote-then t a b
+
+-- ---- a line for each pixel, in row order
+
+line-of : (a b c : List ℕ) → countOf 10 a ≡ 0 → countOf 10 b ≡ 0 → countOf 10 c ≡ 0 → countOf 10 ((a ++ 32 ∷ (b ++ 32 ∷ c)) ++ (10 ∷ [])) ≡ 1
+line-of a b c ha hb hc =
+    omega (arith, count-append 10 (a ++ 32 ∷ (b ++ 32 ∷ c)) (10 ∷ []), count-append 10 a (32 ∷ (b ++ 32 ∷ c)), count-append 10 b (32 ∷ c))
+
+colour-line : (c : Colour) → countOf 10 (pixelText c) ≡ 1
+colour-line c =
+    line-of (decimalOf (c .red)) (decimalOf (c .green)) (decimalOf (c .blue))
+    (number-free 10 (c .red) (omega arith)) (number-free 10 (c .green) (omega arith)) (number-free 10 (c .blue) (omega arith))
+
+pub one-line : (c : Chip) (memory : List ℕ) (k : ℕ) → countOf 10 (pixelAt c memory k) ≡ 1
+one-line c memory k = colour-line (colourOf (glassOf c memory (k / 101) (k % 101)))
+
+pub pixel-of :
+    (c : Chip) (memory : List ℕ) (row column : ℕ) → column ≤ 100
+    → pixelAt c memory (101 * row + column) ≡ pixelText (colourOf (glassOf c memory row column))
+pixel-of c memory row column h =
+    let row-of : (101 * row + column) / 101 ≡ row = omega arith in
+    let column-of : (101 * row + column) % 101 ≡ column = omega arith in
+    rw (row-of, column-of)
 
 -- ---- how long
 

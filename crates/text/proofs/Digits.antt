@@ -123,7 +123,8 @@ spells-decimal (d ∷ e ∷ ds) n s =
     let bounds = leading-bounds d (s .well-led) in
     let same : digit (worth d) ≡ d = omega arith in
     let from : worthAfter (worth d) (e ∷ ds) ≡ n = ap (λ (m : ℕ). worthAfter m (e ∷ ds)) (omega arith) ∙ s .value in
-    sym (ap decimalOf (sym from) ∙ spelt-after (worth d) (e ∷ ds) (omega arith) (and-both (isDigit d) (allDigits (e ∷ ds)) (s .digits) .1) ∙ rw (decimal-one (worth d) (omega arith), same))
+    let rest : allDigits (e ∷ ds) ≡ true = and-both (isDigit d) (allDigits (e ∷ ds)) (s .digits) .1 in
+    sym (ap decimalOf (sym from) ∙ spelt-after (worth d) (e ∷ ds) (omega arith) rest ∙ rw (decimal-one (worth d) (omega arith), same))
 
 -- ---- how many
 
@@ -171,4 +172,5 @@ decimal-short n h = go (decLt n 10) (decLt n 100)
     go (no m) (no k) =
         let hundreds : n / 10 / 10 ≡ n / 100 = omega arith in
         decimal-more n (omega arith)
-        ∙ rw (decimal-more (n / 10) (omega arith), decimal-one (n / 10 / 10) (omega arith), hundreds) (sym (rw (le-ltb n 10 (omega arith), le-ltb n 100 (omega arith))))
+        ∙ rw (decimal-more (n / 10) (omega arith), decimal-one (n / 10 / 10) (omega arith), hundreds)
+        (sym (rw (le-ltb n 10 (omega arith), le-ltb n 100 (omega arith))))

@@ -40,6 +40,7 @@ wellLed [] = false
 wellLed (d ∷ []) = true
 wellLed (d ∷ e ∷ ds) = isLeading d
 
+-- the digits ds are the number n as document 01 writes it, of any length
 pub record Spells (ds : List ℕ) (n : ℕ) : Type 0 where
   pub digits : allDigits ds ≡ true
   pub well-led : wellLed ds ≡ true
@@ -59,6 +60,17 @@ past i n = cond (leb (i + n) top) (i + n) top
 pub record Wrote (l : List ℕ) (i : ℕ) (xs : List ℕ) (m : List ℕ) (j : ℕ) : Type 0 where
   pub list : m ≡ sets l i xs
   pub next : j ≡ past i (length xs)
+
+-- all of xs from place i on, where l has room for them, else nothing: the next place, and the buffer
+pub record Placed : Type 0 where
+  pub next : ℕ
+  pub out : List ℕ
+
+abbrev pub placed : ℕ → List ℕ → Placed
+placed j l = record { next = j; out = l }
+
+unfoldable pub ifRoom : List ℕ → List ℕ → ℕ → Placed
+ifRoom xs l i = cond (leb (i + length xs) (length l)) (placed (i + length xs) (sets l i xs)) (placed i l)
 
 -- the texts f k, f (k + 1) and so on, n of them, one after the other
 abbrev pub partsFrom : (ℕ → List ℕ) → ℕ → ℕ → List ℕ

@@ -3,7 +3,7 @@
 ghost use mathlib.Core.List.{[], _∷_, _++_};
 ghost use mathlib.Core.Path.{_≡_};
 ghost use Prim.Native.Nat.{_+_};
-ghost use Rattle.text.specs.Printed.{decimalOf, past, Wrote, writtenNumber, writtenLength};
+ghost use Rattle.text.specs.Printed.{decimalOf, past, Wrote, placed, ifRoom, writtenNumber, writtenLength};
 
 // How the writing of a whole text ended: its length, the length that is needed, or the number of a refusal.
 pub enum Written {
@@ -101,4 +101,19 @@ pub fn decimal_plus(n: u64, k: u8, out: &mut [u8], at: usize) -> usize
     }
     let next = decimal(tens, out, at);
     byte(48 + (units % 10) as u8, out, next)
+}
+
+// The same, all or nothing: where there is no room for every digit nothing is stored, and the result is `at`.
+pub fn decimal_if_room(n: u64, k: u8, out: &mut [u8], at: usize) -> usize
+    ensures { λ r. ⌜ placed r (now (out .exit)) ≡ ifRoom (decimalOf (n + k)) (now (out .entry)) at ⌝ }
+{
+    let mut none = [0u8; 0];
+    let width = decimal_plus(n, k, &mut none, 0);
+    if out.len() < at {
+        return at;
+    }
+    if out.len() - at < width {
+        return at;
+    }
+    decimal_plus(n, k, out, at)
 }

@@ -21,7 +21,11 @@ same-length c = search needs
 
 returns : tie.Need-returns
 returns c =
-    row-wrote _ _ _ _ (omega arith) (omega arith) (omega arith) (c .before .before .before .before .before .before .before .before .before .before .before .before .before .before .field .ensures) (c .before .before .before .before .before .before .before .before .before .before .field2 .ensures) (c .before .before .before .before .before .before .field3 .ensures) (c .before .before .field4 .ensures)
+    row-wrote _ _ _ _ (omega arith) (omega arith) (omega arith)
+    (c .before .before .before .before .before .before .before .before .before .before .before .before .before .before .field .ensures)
+    (c .before .before .before .before .before .before .before .before .before .before .field2 .ensures)
+    (c .before .before .before .before .before .before .field3 .ensures)
+    (c .before .before .field4 .ensures)
 
 pub cell-spec : {M : Type 1} → statement M
 cell-spec =

@@ -11,7 +11,9 @@ shared-slice-read-event : tie.Need-shared-slice-read-event
 shared-slice-read-event c = search needs
 
 returns : tie.Need-returns
-returns c = wrote-no-row (c .before .before .before .before .before .args .memory .now) (c .before .before .before .before .before .args .writers .now) _ _ _ (omega arith) (c .if1 .taken)
+returns c =
+    let args = c .before .before .before .before .before .args in
+    wrote-no-row (args .memory .now) (args .writers .now) _ _ _ (omega arith) (c .if1 .taken)
 
 shared-slice-read-cell : tie.Need-shared-slice-read-cell
 shared-slice-read-cell c = search needs
@@ -26,7 +28,9 @@ same-length : tie.Need-same-length
 same-length c = search needs
 
 returns-2 : tie.Need-returns-2
-returns-2 c = wrote-row (c .before .before .before .before .before .before .before .before .before .before .args .memory .now) (c .before .before .before .before .before .before .before .before .before .before .args .writers .now) _ (c .before .before .before .before .before .if1 .left) (c .before .before .cell .ensures)
+returns-2 c =
+    let args = c .before .before .before .before .before .before .before .before .before .before .args in
+    wrote-row (args .memory .now) (args .writers .now) _ (c .before .before .before .before .before .if1 .left) (c .before .before .cell .ensures)
 
 pub cell-at-spec : {M : Type 1} → statement M
 cell-at-spec =

@@ -49,7 +49,8 @@ loop-again c = (
   search needs,
   wrote-next (c .before .before .cell-at .ensures),
   search needs,
-  λ l j w. c .before .before .before .before .before .loop .inv .3 l j (parts-turn _ _ _ (c .before .before .before .before .loop-test .taken) (omega arith) (c .before .before .cell-at .ensures) w),
+  λ l j w. c .before .before .before .before .before .loop .inv .3 l j
+      (parts-turn _ _ _ (c .before .before .before .before .loop-test .taken) (omega arith) (c .before .before .cell-at .ensures) w),
 )
 
 same-length : tie.Need-same-length Inv-loop μ-loop

@@ -21,9 +21,10 @@ cells-requires c κs = accepted _ _ (sym (c .before .before .refusal .ensures) �
 
 returns-2 : tie.Need-returns-2
 returns-2 c =
-    let start = c .before .before .before .before .before .before .before .before .before in
-    let bound = listing-bound (start .args .memory .now) (start .args .writers .now)
-    (λ k. omega (arith, c .before .before .before .before .before .before .before .before .shared-slice-known .given k)) (λ k. omega (arith, c .before .before .before .before .before .before .before .shared-slice-known2 .given k)) in
+    let known = c .before .before .before .before .before .before .before in
+    let args = known .before .before .args in
+    let bound = listing-bound (args .memory .now) (args .writers .now)
+    (λ k. omega (arith, known .before .shared-slice-known .given k)) (λ k. omega (arith, known .shared-slice-known2 .given k)) in
     whole-passed _ _ _ _ (c .before .before .before .before .before .refusal .ensures) (c .before .before .before .before .if1 .left)
     (whole-short _ _ (omega arith) (c .before .before .cells .ensures) (c .if2 .taken))
 
@@ -36,11 +37,12 @@ same-length c = search needs
 returns-3 : tie.Need-returns-3
 returns-3 c =
     let tested = c .before .before .before .before in
-    let start = tested .before .before .before .before .before .before .before .before .before in
-    let bound = listing-bound (start .args .memory .now) (start .args .writers .now)
-    (λ k. omega (arith, tested .before .before .before .before .before .before .before .before .shared-slice-known .given k)) (λ k. omega (arith, tested .before .before .before .before .before .before .before .shared-slice-known2 .given k)) in
+    let known = tested .before .before .before .before .before .before .before in
+    let args = known .before .before .args in
+    let bound = listing-bound (args .memory .now) (args .writers .now)
+    (λ k. omega (arith, known .before .shared-slice-known .given k)) (λ k. omega (arith, known .shared-slice-known2 .given k)) in
     whole-passed _ _ _ _ (tested .before .before .before .before .before .refusal .ensures) (tested .before .before .before .before .if1 .left)
-    (whole-written _ (start .args .out .now) (omega arith) (tested .before .before .cells .ensures) (tested .if2 .left) (c .before .before .cells2 .ensures))
+    (whole-written _ (args .out .now) (omega arith) (tested .before .before .cells .ensures) (tested .if2 .left) (c .before .before .cells2 .ensures))
 
 pub listing-spec : {M : Type 1} → statement M
 listing-spec =

@@ -27,9 +27,10 @@ same-length c = search needs
 returns-2 : tie.Need-returns-2
 returns-2 c =
     let tested = c .before .before .before .before in
-    let start = tested .before .before .before .before .before in
-    let bound = refused-bound (start .args .n + start .args .k) (omega arith) in
-    whole-written _ (start .args .out .now) (omega arith) (tested .before .before .refused-line .ensures) (tested .if1 .left) (c .before .before .refused-line2 .ensures)
+    let args = tested .before .before .before .before .before .args in
+    let bound = refused-bound (args .n + args .k) (omega arith) in
+    whole-written _ (args .out .now) (omega arith) (tested .before .before .refused-line .ensures) (tested .if1 .left)
+    (c .before .before .refused-line2 .ensures)
 
 pub refused-spec : {M : Type 1} → statement M
 refused-spec =

@@ -20,7 +20,11 @@ same-length : tie.Need-same-length
 same-length c = search needs
 
 returns : tie.Need-returns
-returns c = refused-wrote _ (omega arith) (omega arith) (c .before .before .before .before .before .before .before .before .before .before .bytes .ensures) (c .before .before .before .before .before .before .decimal-plus .ensures) (c .before .before .byte .ensures)
+returns c =
+    let third = c .before .before in
+    let second = third .before .before .before .before in
+    let first = second .before .before .before .before in
+    refused-wrote _ (omega arith) (omega arith) (first .bytes .ensures) (second .decimal-plus .ensures) (third .byte .ensures)
 
 pub refused-line-spec : {M : Type 1} → statement M
 refused-line-spec =

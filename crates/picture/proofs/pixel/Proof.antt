@@ -27,8 +27,10 @@ same-length c = search needs
 
 returns : tie.Need-returns
 returns c =
-    pixel-wrote (c .before .before .before .before .before .before .before .before .before .before .before .before .before .before .before .before .args .colour) (omega arith) (omega arith)
-    (c .before .before .before .before .before .before .before .before .before .before .before .before .field .ensures) (c .before .before .before .before .before .before .before .field2 .ensures) (c .before .before .field3 .ensures)
+    let third = c .before .before in
+    let second = third .before .before .before .before .before in
+    let first = second .before .before .before .before .before in
+    pixel-wrote (first .before .before .before .before .args .colour) (omega arith) (omega arith) (first .field .ensures) (second .field2 .ensures) (third .field3 .ensures)
 
 pub pixel-spec : {M : Type 1} → statement M
 pixel-spec =

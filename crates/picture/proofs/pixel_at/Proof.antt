@@ -16,7 +16,9 @@ same-length : tie.Need-same-length
 same-length c = search needs
 
 returns : tie.Need-returns
-returns c = pixel-shown (c .before .before .before .before .before .before .before .before .args .chip) _ _ _ _ (c .before .before .before .before .before .glass .ensures) (c .before .before .before .before .colour-of .ensures) (c .before .before .pixel .ensures)
+returns c =
+    let start = c .before .before .before .before .before .before .before .before in
+    pixel-shown (start .args .chip) _ _ _ _ (c .before .before .before .before .before .glass .ensures) (c .before .before .before .before .colour-of .ensures) (c .before .before .pixel .ensures)
 
 pub pixel-at-spec : {M : Type 1} → statement M
 pixel-at-spec =

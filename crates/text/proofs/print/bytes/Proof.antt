@@ -39,7 +39,8 @@ loop-again c = (
   search needs,
   wrote-next (c .before .before .byte .ensures),
   search needs,
-  λ l j w. c .before .before .before .before .before .before .loop .inv .3 l j (rest-turn _ _ (c .before .before .before .before .before .loop-test .taken) (omega arith) (c .before .before .byte .ensures) w),
+  λ l j w. c .before .before .before .before .before .before .loop .inv .3 l j
+      (rest-turn _ _ (c .before .before .before .before .before .loop-test .taken) (omega arith) (c .before .before .byte .ensures) w),
 )
 
 same-length : tie.Need-same-length Inv-loop μ-loop

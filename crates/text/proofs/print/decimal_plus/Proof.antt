@@ -23,7 +23,9 @@ same-length : tie.Need-same-length
 same-length c = search needs
 
 returns : tie.Need-returns
-returns c = sum-one (c .before .before .before .before .before .before .args .n) _ (c .before .before .before .before .if1 .taken) (c .before .before .byte .ensures)
+returns c =
+    sum-one (c .before .before .before .before .before .before .args .n) _ (c .before .before .before .before .if1 .taken)
+    (c .before .before .byte .ensures)
 
 decimal-requires : tie.Need-decimal-requires
 decimal-requires c κs = search needs
