@@ -15,7 +15,7 @@ use Rattle.capture.specs.Replay.{replayOf}
 use Rattle.capture.proofs.Laws.{fed-is-replayed}
 use Rattle.player.specs.declared.Turn.{Turn}
 use Rattle.player.specs.Answers.{Answer, answerOf, bytesOf, hasFailed, goesOn, textOf, lastFailed, Turned, takenIn}
-use Rattle.player.specs.Played.{FedSome, ReplayOfSome}
+use Rattle.player.specs.Played.{TurnOfSome, ReplayOfSome}
 
 -- the way through a turn; the number that was answered has gone through the bits of an `isize`
 pub taken :
@@ -56,7 +56,7 @@ pub nothing-fed : (m w : List ℕ) (c : Capture) → c ≡ startOf → FedSoFar 
 nothing-fed m w c e = record { answers = []; is-fed = ap (λ (d : Capture). fed d m w) e; is-failed = refl }
 
 pub turn-fed :
-    {m₀ w₀ m w m′ w′ : List ℕ} {c : Capture} {failed : Bool} (t : Turn) → FedSoFar m₀ w₀ c m w failed → FedSome t m′ w′ (fed c m w)
+    {m₀ w₀ m w m′ w′ : List ℕ} {c : Capture} {failed : Bool} (t : Turn) → FedSoFar m₀ w₀ c m w failed → TurnOfSome t m′ w′ (fed c m w)
     → FedSoFar m₀ w₀ (t .capture) m′ w′ (t .failed)
 unfolding takenIn
 turn-fed {m₀} {w₀} t so-far more =

@@ -10,7 +10,7 @@ use Rattle.player.specs.declared.Played.{Played}
 use Rattle.player.specs.Answers.{Answer, turned, takenIn, textOf, lastFailed}
 
 -- one answer
-pub record FedSome (t : Turn) (m w : List ℕ) (before : Fed) : Type 0 where
+pub record TurnOfSome (t : Turn) (m w : List ℕ) (before : Fed) : Type 0 where
   pub answer : Answer
   pub is-fed : turned t m w ≡ takenIn answer before
 

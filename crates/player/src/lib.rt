@@ -2,13 +2,13 @@
 ghost use mathlib.Core.Path.{_≡_};
 ghost use Rattle.capture.specs.Feeding.{fed};
 ghost use Rattle.player.specs.Answers.{goesOn, turned, takenIn, answerOf};
-ghost use Rattle.player.specs.Played.{FedSome, ReplayOfSome};
+ghost use Rattle.player.specs.Played.{TurnOfSome, ReplayOfSome};
 use capture::Capture;
 use capture::End;
 use capture::Line;
 
 // A capture with what one read gave, whether there may be more to read, and whether that read failed.
-pub struct Turn {
+struct Turn {
     pub capture: Capture,
     pub more: bool,
     pub failed: bool,
@@ -51,7 +51,7 @@ fn take_in(got: isize, buf: &[u8], capture: Capture, memory: &mut [u8], writers:
 
 // One read. The buffer is of this turn alone, so that the loop knows nothing of it.
 fn read_once(fd: i32, capture: Capture, memory: &mut [u8], writers: &mut [u64]) -> Turn
-    ensures { λ r. ⌜ FedSome r (now (memory .exit)) (now (writers .exit)) (fed capture (now (memory .entry)) (now (writers .entry))) ⌝ }
+    ensures { λ r. ⌜ TurnOfSome r (now (memory .exit)) (now (writers .exit)) (fed capture (now (memory .entry)) (now (writers .entry))) ⌝ }
 {
     let mut buf = io::large_buffer();
     let got = libc::read(fd, &mut buf);
