@@ -30,18 +30,16 @@ bytesOf a = take (countOf a) (a .buffer)
 abbrev pub hasFailed : Answer → Bool
 hasFailed a = ltZ (a .got) (pos 0)
 
--- ---- one after the other
+-- ---- the answers to all calls, the last of them first
 
 -- what they gave, in the order in which it came
 abbrev pub textOf : List Answer → List ℕ
 textOf [] = []
-textOf (a ∷ rest) = bytesOf a ++ textOf rest
+textOf (a ∷ before) = textOf before ++ bytesOf a
 
--- the last of them failed
 abbrev pub lastFailed : List Answer → Bool
 lastFailed [] = false
-lastFailed (a ∷ []) = hasFailed a
-lastFailed (a ∷ b ∷ rest) = lastFailed (b ∷ rest)
+lastFailed (a ∷ before) = hasFailed a
 
 -- ---- the capture
 
