@@ -24,7 +24,7 @@ use Rattle.player.proofs.Laws.{rest-unread}
 -- the way through a turn; the number that was answered has gone through the bits of an `isize`
 pub taken :
     (got z : ℤ) (buffer : List ℕ) (f g : Fed) (n : ℕ) (on : Bool) → z ≡ got → n ≡ clamped z (length buffer) → g ≡ feedOf (take n buffer) f → on ≡ goesOn (g .line)
-    → _≡_ {A = Turned} (record { fed = g; more = ltb 0 n && on; failed = ltZ z (pos 0) }) (takenIn (answerOf got buffer) f)
+    → _≡_ {A = Turned} (record { after = g; more = ltb 0 n && on; failed = ltZ z (pos 0) }) (takenIn (answerOf got buffer) f)
 unfolding takenIn
 taken got z buffer f g n on ez en eg eo = rw (eo, eg, en, ez)
 
@@ -69,7 +69,7 @@ unfolding takenIn
 turn-fed {m₀} {w₀} {m} {w} {c = c} t so-far left turn =
     record {
       answers = a ∷ before;
-      is-fed = ap (λ (u : Turned). u .fed) (turn .is-taken-in) ∙ fed-now;
+      is-fed = ap (λ (u : Turned). u .after) (turn .is-taken-in) ∙ fed-now;
       is-failed = ap (λ (u : Turned). u .failed) (turn .is-taken-in);
       is-enough =
           λ h. enough a before m₀ w₀ _ _ refl (ap (λ (f : Fed). goesOn (f .line)) (sym fed-now)) (sym (ap (λ (u : Turned). u .more) (turn .is-taken-in)) ∙ h);

@@ -53,15 +53,15 @@ goesOn BadFirst = false
 goesOn Bad = false
 
 pub record Turned : Type 0 where
-  pub fed : Fed
+  pub after : Fed
   pub more : Bool
   pub failed : Bool
 
 abbrev pub turned : Turn → List ℕ → List ℕ → Turned
-turned t m w = record { fed = Rattle.capture.specs.Feeding.fed (t .capture) m w; more = t .more; failed = t .failed }
+turned t m w = record { after = fed (t .capture) m w; more = t .more; failed = t .failed }
 
 -- the bytes are fed; there may be more where there was one and the capture is not refused
 unfoldable pub takenIn : Answer → Fed → Turned
 takenIn a f =
     let g : Fed = feedOf (bytesOf a) f in
-    record { fed = g; more = ltb 0 (countOf a) && goesOn (g .line); failed = hasFailed a }
+    record { after = g; more = ltb 0 (countOf a) && goesOn (g .line); failed = hasFailed a }

@@ -34,22 +34,21 @@ fn goes_on(line: Line) -> bool
     }
 }
 
-// What a read answered, with the buffer that it was lent: a failed one gave no byte, and neither does one at the end of the input.
+// What a read answered, and the buffer that it was lent. One that failed gave no byte, and neither does one at the end of the input.
 fn take_in(got: isize, buf: &[u8], capture: Capture, memory: &mut [u8], writers: &mut [u64]) -> Turn
     ensures { λ r. ⌜ turned r (now (memory .exit)) (now (writers .exit)) ≡ takenIn (answerOf got (now (buf .entry))) (fed capture (now (memory .entry)) (now (writers .entry))) ⌝ }
 {
     let n = io::count(got, buf);
     let after = capture::feed(capture, memory, writers, &buf[..n]);
-    let chip = after.chip;
     let line = after.line;
     Turn {
-        capture: Capture { chip, line },
+        capture: after,
         more: (0 < n) & goes_on(line),
         failed: got < 0,
     }
 }
 
-// One read. The buffer is of this turn alone, so that the loop knows nothing of it.
+// One read. The buffer stands here, so that the loop knows nothing of it.
 fn read_once(fd: i32, capture: Capture, memory: &mut [u8], writers: &mut [u64]) -> Turn
     ensures { λ r. ⌜ TurnOfSome r (now (memory .exit)) (now (writers .exit)) (fed capture (now (memory .entry)) (now (writers .entry))) ⌝ }
 {
@@ -58,14 +57,14 @@ fn read_once(fd: i32, capture: Capture, memory: &mut [u8], writers: &mut [u64]) 
     take_in(got, &buf, capture, memory, writers)
 }
 
-// A capture from a file that is open. The memories are those that the events write; they are lent as zeros.
+// The capture in a file that is open. The memories are those that the events write; at the start of a capture they are lent as zeros.
 pub fn play(fd: i32, memory: &mut [u8], writers: &mut [u64]) -> Played
     ensures { λ r. ⌜ ReplayOfSome r (now (memory .exit)) (now (writers .exit)) (now (memory .entry)) (now (writers .entry)) ⌝ }
 {
     let mut capture = capture::start();
     let mut more = true;
     let mut failed = false;
-    // A proved loop needs a number that falls, and nothing says that an input ends: no run makes this many turns.
+    // A proved loop needs a number that falls, and nothing says that an input ends. No run makes this many turns.
     let mut turns = u64::MAX;
     while 0 < turns && more {
         let turn = read_once(fd, capture, memory, writers);

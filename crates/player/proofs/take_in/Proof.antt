@@ -23,7 +23,7 @@ same-length-2 : tie.Need-same-length-2
 same-length-2 c = search needs
 
 returns : tie.Need-returns
-returns c = taken _ _ _ _ _ _ _ (toZ-ofZ (c .before .before .before .before .before .before .before .before .before .before .before .before .before .before .fits .got)) (c .before .before .before .before .before .before .before .before .before .before .count .ensures .1) (c .before .before .before .before .before .before .feed .ensures) (c .goes-on .ensures)
+returns c = taken _ _ _ _ _ _ _ (toZ-ofZ (c .before .before .before .before .before .before .before .before .before .before .before .before .before .fits .got)) (c .before .before .before .before .before .before .before .before .before .count .ensures .1) (c .before .before .before .before .before .feed .ensures) (c .goes-on .ensures)
 
 pub take-in-spec : {M : Type 1} → statement M
 take-in-spec =
