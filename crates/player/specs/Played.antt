@@ -2,7 +2,7 @@
 -- the replay of exactly the bytes that it gave, in the order in which they came, and they were all that matters.
 use mathlib.Core.List.{List, _∷_, _++_}
 use mathlib.Core.Path.{_≡_}
-use Prim.Native.Nat.{ℕ, _+_}
+use Prim.Native.Nat.{ℕ}
 use lib.ListN.{length}
 use Rattle.capture.specs.Feeding.{Fed, meaning}
 use Rattle.capture.specs.Replay.{replayOf}
