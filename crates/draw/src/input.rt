@@ -1,4 +1,6 @@
 // The list's file, and what is said where it can't be read.
+ghost use mathlib.Core.Path.{_≡_};
+ghost use lib.ListN.{length};
 
 pub fn say(message: &[u8]) {
     io::write_all(libc::STDERR_FILENO, message);
@@ -20,6 +22,13 @@ pub fn open(argument: usize) -> i32 {
         os::fail(&path[..n]);
     }
     fd
+}
+
+// Room for the longest list.
+pub fn room() -> [u8; 1048576]
+    ensures { λ r. ⌜ 1048576 ≡ length r ⌝ }
+{
+    [0; 1048576]
 }
 
 // Whether nothing is left to read. What is left, or an error in reading, is said.

@@ -98,6 +98,6 @@ fn main() {
     if fd < 0 {
         return;
     }
-    let mut room = [0u8; 1048576];
+    let mut room = input::room();
     draw_from(fd, pins, &mut room);
 }
