@@ -98,7 +98,7 @@ with-pins pins body m w two = go (body-course body (started pins m w))
     go : Course 0 (started pins m w) body (playFrom 0 (saidBy (split newline body)) (started pins m w)) → Ended (firstLine pins ++ newline ∷ body) m w
     go (through es end small t q r) =
         all-replayed end
-        (record { pins = pins; events = es; two-wires = two; small = small; written = rw t; done = q ∙ rw zero-add })
+        (record { pins = pins; events = es; pins-allowed = two; small = small; written = rw t; done = q ∙ rw zero-add })
         (whole ∙ r)
     go (stops es rest end small t q st r) =
         refused-after (length es) end
@@ -106,7 +106,7 @@ with-pins pins body m w two = go (body-course body (started pins m w))
           pins = pins;
           events = es;
           rest = rest;
-          two-wires = two;
+          pins-allowed = two;
           small = small;
           as-many = refl;
           written = rw t;

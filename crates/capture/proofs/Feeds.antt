@@ -1,18 +1,22 @@
 -- Ways through the code that feeds, over plain variables: the bytes that are left, fed to what the bytes before them left.
 use mathlib.Core.Path.{_≡_, refl, sym, ap, _∙_}
-use mathlib.Core.Bool.{Bool, true, false, cond}
+use mathlib.Core.Bool.{Bool, true, false, cond, _&&_}
 use mathlib.Core.List.{List, [], _∷_}
-use Prim.Native.Nat.{ℕ, _+_, _<_, _≤_}
+use Prim.Native.Nat.{ℕ, _+_, _*_, _-_, _<_, _≤_}
 use native.Mathlib.Omega.{arith}
 use borrow.Author.Tests.{eq-eqb, ne-eqb, eqb-true}
 use lib.Dec.{eqb}
 use lib.ListN.{length, getD, drop, drop-of-length-le, length-drop}
 use Rattle.registers.specs.State.{State}
+use Rattle.text.specs.Decimal.{isDigit}
 use Rattle.text.proofs.Finding.{drop-next}
+use Rattle.text.proofs.Numbers.{and-both}
 use Rattle.capture.specs.declared.bytes.Scanned.{Scanned}
 use Rattle.capture.specs.declared.Line.{Line}
-use Rattle.capture.specs.Feeding.{Fed, fedAs, fedByte, endedLine, joinedTo, scannedFrom, feedOf}
+use Rattle.capture.specs.declared.Line.the-variants.{Empty, Number}
+use Rattle.capture.specs.Feeding.{goesOn, Fed, fedAs, fedByte, endedLine, joinedTo, scannedFrom, Onward, feedOf}
 use Rattle.capture.specs.Reading.{newline}
+use Rattle.capture.proofs.Lines.{chosen, digit-range, more}
 
 pub feed-ends : (part : List ℕ) (at : ℕ) (f : Fed) → length part ≤ at → feedOf (drop at part) f ≡ f
 unfolding feedOf
@@ -35,6 +39,26 @@ module _ (part : List ℕ) (at : ℕ) (l : Line) where
   pub scan-ends : length part ≤ at → scannedFrom at (drop at part) l ≡ record { line = l; at = at }
   unfolding scannedFrom
   scan-ends h = rw (drop-of-length-le part h)
+
+-- a digit that may follow, and one that begins an event line
+module _ (part : List ℕ) (at : ℕ) (h : at < length part) (t : Bool) (e : t ≡ isDigit (getD part at 0)) where
+  no-newline : t ≡ true → getD part at 0 ≡ newline → ⊥
+  no-newline is q = let range = digit-range (getD part at 0) t e is in omega arith
+
+  pub digit-follows :
+      (n : ℕ) (u : Bool) → u ≡ goesOn n → u && t ≡ true
+      → scannedFrom (at + 1) (drop (at + 1) part) (Number (n * 10 + (getD part at 0 - 48))) ≡ scannedFrom at (drop at part) (Number n)
+  unfolding joinedTo
+  digit-follows n u eu is =
+      scan-on part at (Number n) h (no-newline (and-both u t is .1)) _ (more (getD part at 0) t e n u eu is)
+
+  pub digit-begins : t ≡ true → scannedFrom (at + 1) (drop (at + 1) part) (Number (getD part at 0 - 48)) ≡ scannedFrom at (drop at part) Empty
+  unfolding joinedTo
+  digit-begins is = scan-on part at Empty h (no-newline is) _ (chosen (isDigit (getD part at 0)) _ _ _ (sym e ∙ is) refl)
+
+-- a line that is told
+pub onward-told : (told line : Line) (part : List ℕ) (at : ℕ) (r : Scanned) → line ≡ told → Onward part at told r → Onward part at line r
+onward-told told line part at r e h = rw e h
 
 -- what the scan leaves is still to be fed
 pub record Scan (part : List ℕ) (at : ℕ) (l : Line) (r : Scanned) : Type 0 where

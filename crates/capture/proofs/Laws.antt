@@ -7,11 +7,11 @@ use mathlib.Core.Path.{_≡_, refl, sym, ap, _∙_, subst}
 use Prim.Native.Nat.{ℕ, _+_, _<_, _≤_}
 use native.Mathlib.Nat.{zero-add}
 use native.Mathlib.Omega.{arith}
-use lib.ListN.{length, length-replicate, getD-replicate}
+use lib.ListN.{length, getD, length-replicate, getD-replicate}
 use Rattle.registers.specs.State.{State, places}
 use Rattle.chip.specs.LastWriter.{Untouched, Written}
-use Rattle.chip.specs.Promised.{Outcome, outcome, runOf}
-use Rattle.chip.proofs.Laws.{last-writer}
+use Rattle.chip.specs.Promised.{Fit, Outcome, runOf}
+use Rattle.chip.proofs.Laws.{last-writer, run-stays-fit}
 use Rattle.capture.specs.declared.Capture.{Capture}
 use Rattle.capture.specs.Cells.{zeros, CellAfter}
 use Rattle.capture.specs.Feeding.{Fed, fed, startOf, feedOf, feedParts, allParts, finishOf, meaning}
@@ -19,7 +19,7 @@ use Rattle.capture.specs.Reading.{captureText}
 use Rattle.capture.specs.Replay.{refusedAt, replayed, started, outcomeOf, replayOf}
 use Rattle.capture.specs.Where.{Small, Replayed, NoFirstLine, StoppedAfter}
 use Rattle.capture.proofs.Courses.{Ended, all-replayed, refused-first, refused-after, ended}
-use Rattle.capture.proofs.Ways.{capture-played, so-replayed, so-stopped, started-fit, run-entered}
+use Rattle.capture.proofs.Ways.{capture-played, so-replayed, so-stopped, started-fit, run-entered, replayed-run}
 use Rattle.capture.proofs.Whole.{resultOf, text-fed}
 
 -- ---- reading in parts
@@ -65,9 +65,9 @@ is-refused-first text m w end = (there (ended text m w), λ h. back (h .0) (h .1
     there (refused-after n e r q) h = absurd (let z : 1 ≡ n + 2 = cc in omega arith)
 
     back : NoFirstLine text → end ≡ started 0 m w → Ended text m w → replayOf text m w ≡ refusedAt 1 end
-    back n s (all-replayed e r q) = absurd (n (r .pins) _ (r .two-wires) (r .written))
+    back n s (all-replayed e r q) = absurd (n (r .pins) _ (r .pins-allowed) (r .written))
     back n s (refused-first _ q) = q ∙ rw s
-    back n s (refused-after k e r q) = absurd (n (r .pins) _ (r .two-wires) (r .written))
+    back n s (refused-after k e r q) = absurd (n (r .pins) _ (r .pins-allowed) (r .written))
 
 -- refused at line n + 2 exactly if n events stand before it, all done, and that line has no newline, is no number or is an event that is refused
 pub is-refused-after : (n : ℕ) (text m w : List ℕ) (end : State) → (replayOf text m w ≡ refusedAt (n + 2) end) ↔ StoppedAfter n text m w end
@@ -89,13 +89,22 @@ pub capture-runs :
 capture-runs pins es m w two small lm lw =
     capture-played pins es m w two small ∙ ap (λ (o : Outcome). outcomeOf o true) (sym (run-entered es (started pins m w) (started-fit pins m w two lm lw)))
 
+-- after a capture that is replayed the record is allowed and the memories have their length
+pub end-fit : (text m w : List ℕ) (end : State) → Replayed text m w end → length m ≡ places → length w ≡ places → Fit end
+end-fit text m w end r lm lw =
+    subst (λ (o : Outcome). Fit (o .state)) (replayed-run text m w end r lm lw)
+    (run-stays-fit (r .events) (started (r .pins) m w) (started-fit (r .pins) m w (r .pins-allowed) lm lw))
+
 -- ---- the last writer
 
 -- each cell after a capture that is replayed over memories of zeros: no event landed there and it has no writer, or the last one that did is named
 -- by the writer, from 1, and left its byte
 pub last-writers : (text : List ℕ) (end : State) (r : Replayed text zeros zeros end) (k : ℕ) → k < places → CellAfter (r .pins) (r .events) end k
 last-writers text end r k h =
-    go (subst (λ (o : Outcome). Untouched es (o .done) start (o .state) k ⊎ Written es (o .done) start (o .state) k) run-is (last-writer es start k))
+    go
+    (subst (λ (o : Outcome). Untouched es (o .done) start (o .state) k ⊎ Written es (o .done) start (o .state) k)
+    (replayed-run text zeros zeros end r long long)
+    (last-writer es start k))
   where
     es : List ℕ
     es = r .events
@@ -103,14 +112,14 @@ last-writers text end r k h =
     start : State
     start = started (r .pins) zeros zeros
 
-    run-is : runOf es start ≡ outcome (length es) 0 end
-    run-is =
-        run-entered es start (started-fit (r .pins) zeros zeros (r .two-wires) (length-replicate {A = ℕ} places 0) (length-replicate {A = ℕ} places 0))
-        ∙ r .done
+    long : length zeros ≡ places
+    long = length-replicate {A = ℕ} places 0
+
+    zero-there : getD zeros k 0 ≡ 0
+    zero-there = getD-replicate {A = ℕ} places k 0 0 h
 
     go : Untouched es (length es) start end k ⊎ Written es (length es) start end k → CellAfter (r .pins) es end k
-    go (inl u) =
-        inl (record { none = u .none; byte = u .byte ∙ getD-replicate {A = ℕ} places k 0 0 h; writer = u .writer ∙ getD-replicate {A = ℕ} places k 0 0 h })
+    go (inl u) = inl (record { none = u .none; byte = u .byte ∙ zero-there; writer = u .writer ∙ zero-there })
     go (inr w) =
         inr
         (record {

@@ -12,7 +12,7 @@ use Rattle.text.specs.Text.{split}
 use Rattle.text.proofs.Joining.{split-join}
 use Rattle.engine.specs.Run.{unlessStopped, runOf}
 use Rattle.engine.proofs.Refusals.{fit-entry}
-use Rattle.chip.specs.Promised.{Fit, Outcome, runFrom, refusalOf, accepted}
+use Rattle.chip.specs.Promised.{Fit, Outcome, outcome, runFrom, refusalOf, accepted}
 use Rattle.chip.specs.Runs.{continued}
 use Rattle.chip.proofs.Runs.{from-append}
 use Rattle.capture.specs.Reading.{newline, Said, alsoEvent, saidBy, captureText}
@@ -29,7 +29,7 @@ capture-played pins es m w two small =
 pub so-replayed : (text m w : List ℕ) (end : State) → Replayed text m w end → replayOf text m w ≡ replayed end
 so-replayed text m w end r =
     rw (r .written)
-    (capture-played (r .pins) (r .events) m w (r .two-wires) (r .small) ∙ ap (λ (o : Outcome). outcomeOf o true) (r .done))
+    (capture-played (r .pins) (r .events) m w (r .pins-allowed) (r .small) ∙ ap (λ (o : Outcome). outcomeOf o true) (r .done))
 
 -- events that are all done, and what comes behind them
 behind : (es : List ℕ) (l : Said) (s end : State) → AllDone es s end → playFrom 0 (ahead es l) s ≡ playFrom (length es) l end
@@ -56,7 +56,7 @@ stop-said rest s (refused-event e more small r t) n = rw (t, said-event e more s
 pub so-stopped : (n : ℕ) (text m w : List ℕ) (end : State) → StoppedAfter n text m w end → replayOf text m w ≡ refusedAt (n + 2) end
 so-stopped n text m w end r =
     rw (r .written, ← r .as-many)
-    (replay-written (r .pins) (r .events) (r .rest) m w (r .two-wires) (r .small)
+    (replay-written (r .pins) (r .events) (r .rest) m w (r .pins-allowed) (r .small)
     ∙ behind (r .events) (saidBy (split newline (r .rest))) (started (r .pins) m w) end (r .done)
     ∙ stop-said (r .rest) end (r .stops) (length (r .events)))
 
@@ -69,3 +69,10 @@ started-fit pins m w two lm lw = record { memory-long = lm; writers-long = lw; i
 pub run-entered : (es : List ℕ) (s : State) → Fit s → runOf es s ≡ runFrom 0 es s
 unfolding runOf
 run-entered es s fit = rw (fit-entry s fit)
+
+-- the chip's run over the events of a capture that is replayed
+pub replayed-run :
+    (text m w : List ℕ) (end : State) (r : Replayed text m w end) → length m ≡ places → length w ≡ places
+    → runOf (r .events) (started (r .pins) m w) ≡ outcome (length (r .events)) 0 end
+replayed-run text m w end r lm lw =
+    run-entered (r .events) (started (r .pins) m w) (started-fit (r .pins) m w (r .pins-allowed) lm lw) ∙ r .done

@@ -1,9 +1,10 @@
 -- A capture byte by byte: what is kept of the present line, and what a newline does. proofs/Laws.antt holds it against `replayOf`.
 use mathlib.Core.Bool.{Bool, cond, _&&_}
 use mathlib.Core.List.{List, [], _∷_, _++_}
+use mathlib.Core.Path.{_≡_}
 use Prim.Native.Nat.{ℕ, _+_, _*_, _-_}
 use lib.Dec.{eqb, leb, ltb}
-use lib.ListN.{getD}
+use lib.ListN.{getD, drop}
 use Rattle.registers.specs.declared.Chip.{Chip}
 use Rattle.registers.specs.Record.{resetChip}
 use Rattle.registers.specs.State.{State, state}
@@ -65,6 +66,10 @@ joinedTo Bad b = Bad
 unfoldable pub scannedFrom : ℕ → List ℕ → Line → Scanned
 scannedFrom at [] l = record { line = l; at = at }
 scannedFrom at (b ∷ bs) l = cond (eqb b newline) (record { line = l; at = at }) (scannedFrom (at + 1) bs (joinedTo l b))
+
+-- scanned as far as r: what is left to scan comes to the same
+abbrev pub Onward : List ℕ → ℕ → Line → Scanned → Type 0
+Onward part from l r = scannedFrom (r .at) (drop (r .at) part) (r .line) ≡ scannedFrom from (drop from part) l
 
 -- ---- a newline
 

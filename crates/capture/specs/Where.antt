@@ -25,7 +25,7 @@ AllDone es s end = runFrom 0 es s ≡ outcome (length es) 0 end
 pub record Replayed (text m w : List ℕ) (end : State) : Type 0 where
   pub pins : ℕ
   pub events : List ℕ
-  pub two-wires : pins ≤ 3
+  pub pins-allowed : pins ≤ 3
   pub small : Small events
   pub written : text ≡ captureText pins events
   pub done : AllDone events (started pins m w) end
@@ -50,7 +50,7 @@ pub record StoppedAfter (n : ℕ) (text m w : List ℕ) (end : State) : Type 0 w
   pub pins : ℕ
   pub events : List ℕ
   pub rest : List ℕ
-  pub two-wires : pins ≤ 3
+  pub pins-allowed : pins ≤ 3
   pub small : Small events
   pub as-many : length events ≡ n
   pub written : text ≡ captureThen pins events rest

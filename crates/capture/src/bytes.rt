@@ -2,7 +2,7 @@
 ghost use mathlib.Core.Path.{_≡_};
 ghost use lib.ListN.{drop};
 ghost use Rattle.text.specs.Decimal.{isDigit};
-ghost use Rattle.capture.specs.Feeding.{isPins, onWord, onDigit, goesOn, onNumber, joinedTo, scannedFrom};
+ghost use Rattle.capture.specs.Feeding.{isPins, onWord, onDigit, goesOn, onNumber, joinedTo, scannedFrom, Onward};
 use crate::Line;
 
 const NEWLINE: u8 = 10;
@@ -85,9 +85,8 @@ pub struct Scanned {
     pub at: usize,
 }
 
-// The line with the bytes from a place on, up to the next newline or to the end of the part. The chip does not come into it, so that the
-// loop over bytes is a small one.
-pub fn scan(line: Line, part: &[u8], from: usize) -> Scanned
+// The line with the bytes from a place on, up to the next newline or to the end of the part.
+fn scan_bytes(line: Line, part: &[u8], from: usize) -> Scanned
     ensures { λ r. ⌜ r ≡ scannedFrom from (drop from (now (part .entry))) line ⌝ }
 {
     let mut read = line;
@@ -101,4 +100,57 @@ pub fn scan(line: Line, part: &[u8], from: usize) -> Scanned
         at += 1;
     }
     Scanned { line: read, at }
+}
+
+// The digits behind those of a number, as far as they may follow: what is left to scan comes to the same.
+fn more_digits(number: u16, part: &[u8], from: usize) -> Scanned
+    ensures { λ r. ⌜ Onward (now (part .entry)) from (Line.Number number) r ⌝ }
+{
+    let mut n = number;
+    let mut at = from;
+    while at < part.len() {
+        let byte = part[at];
+        if goes_on(n) & is_digit(byte) {
+            n = n * 10 + ((byte as u16) - 48);
+            at += 1;
+        } else {
+            return Scanned {
+                line: Line::Number(n),
+                at,
+            };
+        }
+    }
+    Scanned {
+        line: Line::Number(n),
+        at,
+    }
+}
+
+// The digits at the start of an event line, likewise. Of any other line nothing is read.
+fn digits(line: Line, part: &[u8], from: usize) -> Scanned
+    ensures { λ r. ⌜ Onward (now (part .entry)) from line r ⌝ }
+{
+    let Line::Empty = line else {
+        return Scanned { line, at: from };
+    };
+    if from < part.len() {
+        let byte = part[from];
+        if is_digit(byte) {
+            return more_digits((byte as u16) - 48, part, from + 1);
+        }
+    }
+    Scanned {
+        line: Line::Empty,
+        at: from,
+    }
+}
+
+// The line with the bytes up to the next newline. Nearly all of them are the digits of an event line, so these have a loop of their own,
+// over a number alone.
+pub fn scan(line: Line, part: &[u8], from: usize) -> Scanned
+    ensures { λ r. ⌜ r ≡ scannedFrom from (drop from (now (part .entry))) line ⌝ }
+{
+    let begun = digits(line, part, from);
+    let read = begun.line;
+    scan_bytes(read, part, begun.at)
 }

@@ -29,30 +29,40 @@ end-line-requires : tie.Need-end-line-requires Inv-loop μ-loop
 end-line-requires c κs = search needs
 
 add-at : tie.Need-add-at Inv-loop μ-loop
-add-at c = omega (arith, c .before .before .before .before .before .before .before .before .if1 .taken, c .before .before .before .before .before .before .before .before .before .before .before .before .before .before .before .before .good)
+add-at c =
+    let test = c .before .before .before .before .before .before .before .before in
+    omega (arith, test .if1 .taken, test .before .before .before .before .before .before .before .before .good)
 
 loop-less : tie.Need-loop-less Inv-loop μ-loop
-loop-less c = let scan = scanned (c .before .before .before .before .before .before .before .before .before .before .before .before .before .before .before .before .args .part .now) (c .before .before .before .before .before .before .before .before .before .before .before .loop .at) _ _ (c .before .before .before .before .before .before .before .before .before .scan .ensures) (c .before .before .before .before .before .before .before .before .before .before .before .loop .inv .0) in omega (arith, scan .starts)
+loop-less c =
+    let test = c .before .before .before .before .before .before .before .before in
+    let head = test .before .before .before .loop in
+    let scan = scanned (test .before .before .before .before .before .before .before .before .args .part .now) (head .at) _ _ (test .before .scan .ensures) (head .inv .0) in
+    omega (arith, scan .starts)
 
 loop-again : tie.Need-loop-again Inv-loop μ-loop
 loop-again c =
-    let head = c .before .before .before .before .before .before .before .before .before .before .before .loop .inv in
-    let scan = scanned (c .before .before .before .before .before .before .before .before .before .before .before .before .before .before .before .before .args .part .now) (c .before .before .before .before .before .before .before .before .before .before .before .loop .at) _ _ (c .before .before .before .before .before .before .before .before .before .scan .ensures) (c .before .before .before .before .before .before .before .before .before .before .before .loop .inv .0) in
-    let ended = c .before .before .before .before .before .end-line in (
+    let ended = c .before .before .before .before .before .end-line in
+    let test = c .before .before .before .before .before .before .before .before in
+    let head = test .before .before .before .loop in
+    let scan = scanned (test .before .before .before .before .before .before .before .before .args .part .now) (head .at) _ _ (test .before .scan .ensures) (head .inv .0) in (
       search needs,
-      ended .kept .1 .1 .0 ∙ head .1,
-      ended .kept .1 .1 .1 .0 ∙ head .2,
-      line-ends _ _ _ _ _ (c .before .before .before .before .before .before .before .before .if1 .taken) (scan .stops (c .before .before .before .before .before .before .before .before .if1 .taken)) (ended .ensures) ∙ sym (scan .leaves _) ∙ head .3,
+      ended .kept .1 .1 .0 ∙ head .inv .1,
+      ended .kept .1 .1 .1 .0 ∙ head .inv .2,
+      line-ends _ _ _ _ _ (test .if1 .taken) (scan .stops (test .if1 .taken)) (ended .ensures) ∙ sym (scan .leaves _) ∙ head .inv .3,
     )
 
 loop-less-2 : tie.Need-loop-less-2 Inv-loop μ-loop
-loop-less-2 c = let scan = scanned (c .before .before .before .before .before .before .before .before .args .part .now) (c .before .before .before .loop .at) _ _ (c .before .scan .ensures) (c .before .before .before .loop .inv .0) in omega (arith, scan .within)
+loop-less-2 c =
+    let head = c .before .before .before .loop in
+    let scan = scanned (c .before .before .before .before .before .before .before .before .args .part .now) (head .at) _ _ (c .before .scan .ensures) (head .inv .0) in
+    omega (arith, scan .within)
 
 loop-again-2 : tie.Need-loop-again-2 Inv-loop μ-loop
 loop-again-2 c =
-    let head = c .before .before .before .loop .inv in
-    let scan = scanned (c .before .before .before .before .before .before .before .before .args .part .now) (c .before .before .before .loop .at) _ _ (c .before .scan .ensures) (c .before .before .before .loop .inv .0) in
-    (scan .within, head .1, head .2, sym (scan .leaves _) ∙ head .3)
+    let head = c .before .before .before .loop in
+    let scan = scanned (c .before .before .before .before .before .before .before .before .args .part .now) (head .at) _ _ (c .before .scan .ensures) (head .inv .0) in
+    (scan .within, head .inv .1, head .inv .2, sym (scan .leaves _) ∙ head .inv .3)
 
 same-length : tie.Need-same-length Inv-loop μ-loop
 same-length c = search needs
