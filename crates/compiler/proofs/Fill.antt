@@ -1,14 +1,13 @@
 -- A whole fill, whatever V and MX are: its events leave the cells that the plain reading says.
 use mathlib.Core.Bool.{Bool, true, false, cond, _&&_}
-use mathlib.Core.List.{List, [], _∷_, _++_}
+use mathlib.Core.List.{List, [], _∷_}
 use mathlib.Core.Path.{_≡_, refl, sym, ap, _∙_, subst}
 use Prim.Native.Nat.{ℕ, zero, suc, _+_, _-_, _/_, _%_, _≤_, _<_}
 use native.Mathlib.Nat.{zero-add, suc-add, add-suc, add-zero, le-of-suc-le-suc, not-suc-le-zero}
-use native.Mathlib.Decide.{ℕ-discrete}
 use native.Mathlib.Omega.{arith}
-use borrow.Author.Tests.{eq-eqb, ne-eqb, eqb-true, eqb-false, leb-true, le-leb}
+use borrow.Author.Tests.{eqb-true, eqb-false, leb-true, le-leb}
 use lib.Dec.{eqb, leb}
-use lib.ListN.{getD, length, List·getD-eq-default}
+use lib.ListN.{getD, length}
 use lib.Seq.{ext-getD}
 use Rattle.registers.specs.declared.Registers.{Registers}
 use Rattle.registers.specs.Places.{«V»}
@@ -16,12 +15,12 @@ use Rattle.registers.specs.Record.{blank}
 use Rattle.registers.specs.State.{State}
 use Rattle.registers.proofs.Below.{true-false}
 use Rattle.registers.proofs.Within.{register-bound, both-left, both-right}
-use Rattle.chip.specs.Paint.{In, Paints, mirrored}
+use Rattle.chip.specs.Paint.{In, Paints}
 use Rattle.chip.specs.Plays.{Plays, Sees}
 use Rattle.chip.proofs.Plays.{plays-weaken}
 use Rattle.compiler.specs.Plain.{isInside, filledFrom, filled}
 use Rattle.compiler.specs.Stream.{across, down, fill, firstX}
-use Rattle.compiler.proofs.Fills.{Drawn, seen-allowed, seen-length, across-plays, down-plays}
+use Rattle.compiler.proofs.Fills.{Drawn, seen-allowed, across-plays, down-plays}
 
 -- ---- the plain reading paints the same cells
 
