@@ -1,7 +1,7 @@
 -- Ways through the code of a step, over plain variables.
 use mathlib.Core.Path.{_≡_, sym, ap, _∙_, subst}
 use mathlib.Core.List.{List}
-use Prim.Native.Nat.{ℕ, _+_, _-_}
+use Prim.Native.Nat.{ℕ, _+_}
 use Rattle.registers.specs.declared.Chip.{Chip}
 use Rattle.registers.specs.Record.{allowed}
 use Rattle.registers.specs.State.{State, state}
