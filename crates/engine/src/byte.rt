@@ -3,7 +3,9 @@ ghost use mathlib.Core.Path.{_≡_};
 ghost use mathlib.Core.Bool.{false};
 ghost use mathlib.Core.List.{List};
 ghost use Prim.Native.Nat.{ℕ, _≤_};
+ghost use Rattle.registers.specs.Record.{inPhase};
 ghost use Rattle.registers.specs.State.{state};
+ghost use Rattle.engine.specs.declared.answer.Answer.the-variants.{NotAcknowledged};
 ghost use Rattle.engine.specs.Step.{Fit, after, contentOf, onByte, controlled, isAddressed, acknowledge, phaseAfterAddress, phaseAfterControl, rsOf, awaitsContent, contentRs, phaseAfterContent};
 use crate::answer::Answer;
 use crate::step::Stepped;
@@ -116,6 +118,28 @@ fn phase_after_content(phase: Phase) -> Phase
     }
 }
 
+fn not_acknowledged(chip: Chip) -> Stepped
+    ensures { λ r. ⌜ r .answer ≡ NotAcknowledged ⌝ }
+    ensures { λ r. ⌜ r .chip ≡ chip ⌝ }
+{
+    Stepped {
+        answer: Answer::NotAcknowledged,
+        chip,
+    }
+}
+
+fn on_address(byte: u8, chip: Chip) -> Stepped
+    requires { ⌜ chip .pins ≤ 3 ⌝ }
+    ensures { λ r. ⌜ r .answer ≡ acknowledge (isAddressed (chip .pins) byte) ⌝ }
+    ensures { λ r. ⌜ r .chip ≡ inPhase chip (phaseAfterAddress (isAddressed (chip .pins) byte) byte) ⌝ }
+{
+    let matched = is_addressed(chip.pins, byte);
+    Stepped {
+        answer: acknowledge(matched),
+        chip: chip.in_phase(phase_after_address(matched, byte)),
+    }
+}
+
 // A byte where no content is awaited: it touches no memory.
 fn on_plain_byte(byte: u8, chip: Chip) -> Stepped
     requires { ⌜ chip .pins ≤ 3 ⌝ }
@@ -124,42 +148,18 @@ fn on_plain_byte(byte: u8, chip: Chip) -> Stepped
 {
     let phase = chip.phase;
     match phase {
-        Phase::Idle => Stepped {
-            answer: Answer::NotAcknowledged,
-            chip,
-        },
-        Phase::AddressAwaited => {
-            let matched = is_addressed(chip.pins, byte);
-            Stepped {
-                answer: acknowledge(matched),
-                chip: chip.in_phase(phase_after_address(matched, byte)),
-            }
-        }
-        Phase::Ignoring => Stepped {
-            answer: Answer::NotAcknowledged,
-            chip,
-        },
+        Phase::Idle => not_acknowledged(chip),
+        Phase::AddressAwaited => on_address(byte, chip),
+        Phase::Ignoring => not_acknowledged(chip),
         Phase::ControlAwaited => Stepped {
             answer: Answer::Acknowledged,
             chip: controlled(chip, byte),
         },
-        // not here: content is awaited
-        Phase::OneByte(_) => Stepped {
-            answer: Answer::NotAcknowledged,
-            chip,
-        },
-        Phase::EndlessBytes(_) => Stepped {
-            answer: Answer::NotAcknowledged,
-            chip,
-        },
-        Phase::Reading => Stepped {
-            answer: Answer::NotAcknowledged,
-            chip: chip.in_phase(Phase::Ignoring),
-        },
-        Phase::ReadEnded => Stepped {
-            answer: Answer::NotAcknowledged,
-            chip: chip.in_phase(Phase::Ignoring),
-        },
+        // these two await content
+        Phase::OneByte(_) => not_acknowledged(chip),
+        Phase::EndlessBytes(_) => not_acknowledged(chip),
+        Phase::Reading => not_acknowledged(chip.in_phase(Phase::Ignoring)),
+        Phase::ReadEnded => not_acknowledged(chip.in_phase(Phase::Ignoring)),
     }
 }
 
