@@ -1,17 +1,25 @@
 -- Ways through the code of a step, over plain variables.
-use mathlib.Core.Path.{_≡_, sym, ap, _∙_, subst}
+use mathlib.Core.Path.{_≡_, sym, ap, ap₂, _∙_, subst}
 use mathlib.Core.List.{List}
 use Prim.Native.Nat.{ℕ, _+_}
 use Rattle.registers.specs.declared.Chip.{Chip}
 use Rattle.registers.specs.Record.{allowed}
 use Rattle.registers.specs.State.{State, state}
 use Rattle.engine.specs.declared.event.Event.{Event}
+use Rattle.engine.specs.declared.answer.Answer.{Answer}
 use Rattle.engine.specs.Event.{eventOf}
-use Rattle.engine.specs.Step.{After, applied, accepted, counted, Fit}
+use Rattle.engine.specs.Step.{After, after, applied, accepted, counted, Fit}
 
 -- the event is told: what is right for it is right
 pub in-told-event : (told event : Event) (number : ℕ) (s : State) (a : After) → event ≡ told → a ≡ applied told number s → a ≡ applied event number s
 in-told-event told event number s a e h = subst (λ (v : Event). a ≡ applied v number s) (sym e) h
+
+-- the same for an event that touches no memory, its answer and the chip after it being told
+pub in-told-plain-event :
+    (told event : Event) (number : ℕ) (s : State) (a a′ : Answer) (c c′ : Chip) → event ≡ told → a ≡ a′ → c ≡ c′
+    → after a′ c′ (s .memory) (s .writers) ≡ applied told number s → after a c (s .memory) (s .writers) ≡ applied event number s
+in-told-plain-event told event number s a a′ c c′ e ea ec h =
+    in-told-event told event number s _ e (ap₂ (λ (x : Answer) (y : Chip). after x y (s .memory) (s .writers)) ea ec ∙ h)
 
 pub counted-fit : (c : Chip) (m w : List ℕ) → Fit (state c m w) → Fit (state (counted c) m w)
 unfolding allowed

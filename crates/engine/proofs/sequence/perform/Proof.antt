@@ -77,7 +77,7 @@ loop-again c =
     let refused = c .before .before .before .before .before .before .before .before .before .of-event .ensures in
     let none = c .before .before .before .before .before .before .before .before .if2 .left in
     let accepts = c .before .before .before .before .before .accept in (
-      search needs,
+      omega (arith, inside),
       accepts .kept .1 .1 .0 ∙ at-head .1,
       accepts .kept .1 .1 .1 .0 ∙ at-head .2,
       sym (run-goes-on _ _ inside _ _ _ refused none (accepts .ensures)) ∙ at-head .3,
