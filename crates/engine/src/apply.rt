@@ -42,7 +42,10 @@ fn apply(event: Event, number: u64, chip: Chip, memory: &mut [u8], writers: &mut
         Event::ReadNotAcknowledged => {
             let byte = crate::plain::read_byte(chip);
             let phase = chip.phase;
-            with_byte_read(byte, chip.in_phase(crate::plain::phase_after_last_read(phase)))
+            with_byte_read(
+                byte,
+                chip.in_phase(crate::plain::phase_after_last_read(phase)),
+            )
         }
         Event::Reset => without_answer(crate::plain::pulsed(chip)),
         Event::Sensor(value) => without_answer(crate::plain::sensed(chip, value)),
