@@ -1,10 +1,10 @@
 -- A row's byte made from registers is a byte of that row and of no other, and each part of it is read back. Shown over the parts, once for
 -- all rows.
-use mathlib.Core.Bool.{Bool, true, false, _&&_, _||_}
+use mathlib.Core.Bool.{Bool, true, false, _&&_}
 use mathlib.Core.List.{List, [], _∷_}
 use mathlib.Core.Path.{_≡_, refl, sym, ap, ap₂, _∙_, subst}
 use Prim.Native.Nat.{ℕ, zero, suc, _+_, _*_, _-_, _/_, _%_, _^_, _≤_, _<_, suc-le-suc}
-use native.Mathlib.Nat.{le-trans, lt-irrefl, lt-of-lt-of-le, le-of-suc-le-suc, not-suc-le-zero, mul-assoc, mul-add, add-mul, add-assoc, zero-mul, add-zero, mul-comm}
+use native.Mathlib.Nat.{le-trans, lt-irrefl, lt-of-lt-of-le, le-of-suc-le-suc, not-suc-le-zero, mul-assoc, add-mul, add-assoc}
 use native.Mathlib.Omega.{arith}
 use borrow.Author.Tests.{eq-eqb}
 use lib.Arith.{digits-lt, digits-div, digits-mod}
@@ -13,7 +13,7 @@ use lib.ListN.{getD, length}
 use lib.Pow.{pow-pos, pow-mono, pow-add}
 use Rattle.registers.specs.declared.Registers.{Registers}
 use Rattle.registers.specs.Encode.{held, encoded, rowByte, aimed}
-use Rattle.registers.specs.Table.{Target, Part, Row, rows, noRow, above, value, opened, isOf, taken, putTo, matches, matchesAt, rowAmong, rowAt}
+use Rattle.registers.specs.Table.{Part, Row, rows, noRow, above, value, opened, isOf, taken, putTo, matches, matchesAt, rowAmong, rowAt}
 use Rattle.registers.proofs.Below.{allBelow, below-at, and-left, and-right}
 use Rattle.registers.proofs.TableTest.{rowNo, rows-apart}
 

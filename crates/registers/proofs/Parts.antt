@@ -1,19 +1,19 @@
 -- What a row's byte changes: its own fields and no other, and an allowed record stays allowed. Shown over the parts, once for the whole table.
-use mathlib.Core.Path.{_≡_, refl, sym, ap, _∙_, subst}
+use mathlib.Core.Path.{_≡_, refl, sym, _∙_, subst}
 use mathlib.Core.Bool.{Bool, true, false, _&&_}
-use mathlib.Core.List.{List, [], _∷_, map, List·Memᴰ}
-use Prim.Native.Nat.{ℕ, zero, suc, _+_, _-_, _*_, _/_, _%_, _^_, _≤_, _<_, zero-le}
+use mathlib.Core.List.{List, [], _∷_, map}
+use Prim.Native.Nat.{ℕ, zero, suc, _+_, _-_, _%_, _^_, _≤_, _<_}
 use native.Mathlib.Nat.{mod-lt, le-trans}
 use native.Mathlib.Omega.{arith}
-use borrow.Author.Tests.{leb-true, eqb-true}
+use borrow.Author.Tests.{leb-true}
 use lib.Dec.{T, leb, leb→le, eqb, eqb→eq}
-use lib.ListN.{getD, set, length}
+use lib.ListN.{getD}
 use lib.Pow.{pow-pos}
 use Rattle.registers.specs.declared.Registers.{Registers}
 use Rattle.registers.specs.Places.{GS0}
 use Rattle.registers.specs.Record.{values, limits, put, allowedRegisters}
 use Rattle.registers.specs.Table.{Target, register, bounded, selected, unheld, Part, Row, rows, above, value, putTo, taken, keep}
-use Rattle.registers.proofs.Below.{allBelow, below-at, and-left, and-right}
+use Rattle.registers.proofs.Below.{below-at, and-left, and-right}
 use Rattle.registers.proofs.Put.{put-other, put-allowed}
 
 -- ---- own fields

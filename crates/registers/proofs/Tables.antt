@@ -1,6 +1,6 @@
 -- The code's tables against the definitions. A table in the code is the list that antt computes from the definition, and one law carries
 -- the rule to each entry; the masks are held against the rows by one test over all rows and all bytes.
-use mathlib.Core.Path.{_≡_, refl, ap, ap₂, _∙_}
+use mathlib.Core.Path.{_≡_, refl, ap, ap₂}
 use mathlib.Core.Bool.{Bool, true, false, _&&_, _||_}
 use mathlib.Core.List.{List, [], _∷_}
 use Prim.Native.Nat.{ℕ, zero, suc, _+_, _<_}

@@ -2,14 +2,10 @@ use Rattle.registers.proofs.Tables.{reversed-at}
 use borrow.Author.Needs.{needs}
 use Rattle.registers.proofs.reversed.reversed.Statement.{statement}
 use Rattle.registers.proofs.reversed.reversed.Tie as tie
-use Rattle.registers.proofs.reversed.reversed.Reads as reads
-use Rattle.registers.proofs.reversed.reversed.Lts as lts
 
--- src/reversed.rt:27:5
 array-read-result : tie.Need-array-read-result
 array-read-result c = search needs
 
--- src/reversed.rt:24:1
 returns : tie.Need-returns
 returns c = reversed-at _ (search needs)
 
