@@ -68,7 +68,10 @@ answer-entered es s x a e z h = rw (sym e ∙ z) h
 -- a run over one event is a step: the entry refuses first, then the event
 one-event :
     (entry later : ℕ) (a : After) (s : State)
-    → record { answer = answerUnless entry (answerUnless (entry then later) (a .answer)); state = unlessStopped entry 0 s (unlessStopped (entry then later) 0 s (outcome 1 0 (a .state))) .state }
+    → record {
+      answer = answerUnless entry (answerUnless (entry then later) (a .answer));
+      state = unlessStopped entry 0 s (unlessStopped (entry then later) 0 s (outcome 1 0 (a .state))) .state;
+    }
     ≡ unlessRefused (entry then later) a s
 one-event zero zero a s = refl
 one-event zero (suc k) a s = refl
@@ -78,4 +81,6 @@ pub step-of-run :
     (e : ℕ) (s s′ : State) (n k : ℕ) (a : Answer) → outcome n k s′ ≡ runOf (e ∷ []) s → a ≡ lastAnswer (e ∷ []) s
     → record { answer = a; state = s′ } ≡ stepOf e s
 unfolding runOf lastAnswer stepOf refusalOf
-step-of-run e s s′ n k a eo ea = rw (ea, ap (λ (o : Outcome). o .state) eo) (one-event (entryRefusal s) (refuse (not (isListed (eventOf e))) 3 then refuse (eqb (s .chip .count) (2 ^ 64 - 1)) 4) (accepted e s) s)
+step-of-run e s s′ n k a eo ea =
+    let later : ℕ = refuse (not (isListed (eventOf e))) 3 then refuse (eqb (s .chip .count) (2 ^ 64 - 1)) 4 in
+    rw (ea, ap (λ (o : Outcome). o .state) eo) (one-event (entryRefusal s) later (accepted e s) s)
