@@ -10,6 +10,7 @@ DOCUMENTS = ["README.md", "docs/LESSONS.md", "docs/STATEMENTS.md", "docs/ARCHITE
 STATEMENTS, ARCHITECTURE = "docs/STATEMENTS.md", "docs/ARCHITECTURE.md"
 LEFT_OUT = {"registers", "io", "os", "libc"}
 PLACES = ["crates", "tests", "include", "samples", "examples", "bench", ".ci"]
+PLACED = re.compile(r"((?:`[^`\n]+`(?:, | and )?)+)\s+in\s+`((?:crates|tests)/[^`\n]+)`")
 WORD = re.compile(r"[A-Za-z0-9_'·-]+")
 
 
@@ -54,6 +55,15 @@ def unknown(path, words):
             yield f"{path}: {name} stands nowhere in the project"
 
 
+def misplaced(path):
+    """Names that are said to stand in a file and do not: `NAME`, `NAME` and `NAME` in `FILE`."""
+    for names, place in PLACED.findall(read(path)):
+        words = set(WORD.findall(read(place))) if os.path.isfile(place) else set()
+        for name in quoted(names):
+            if re.fullmatch(WORD, name) and words and name not in words:
+                yield f"{path}: {name} does not stand in {place}"
+
+
 def stands_on():
     """What each crate stands on, by crates.txt, without what docs/ARCHITECTURE.md leaves out."""
     lines = [line.split(":") for line in read("crates.txt").splitlines() if re.match(r"[a-z]", line)]
@@ -69,7 +79,7 @@ def layers():
 
 def missing():
     words = known()
-    wrong = [fault for path in DOCUMENTS for fault in unknown(path, words)]
+    wrong = [fault for path in DOCUMENTS for fault in [*unknown(path, words), *misplaced(path)]]
     if layers() != stands_on():
         wrong.append(f"{ARCHITECTURE}: the layers are not those of crates.txt")
     unnamed = edits() - Counter(quoted(read(STATEMENTS)))
