@@ -75,7 +75,8 @@
  * the memories.
  *
  * Every length counts elements, not bytes. The buffers of one call must be valid for their length,
- * aligned, and must not overlap; nothing more is asked of them.
+ * aligned, and must not overlap; nothing more is asked of them. Where a length is 0 the pointer still
+ * has to be aligned and not null: any object of the type will do, and it is not touched.
  */
 #ifndef PCF8820_H
 #define PCF8820_H

@@ -37,12 +37,13 @@ either : (t : Bool) (f : Fed) → cond t f f ≡ f
 either true f = refl
 either false f = refl
 
-stuck : (xs : List ℕ) (s : State) → feedOf xs (fedAs Bad s) ≡ fedAs Bad s
+-- a refused capture stays as it is
+pub stuck : (xs : List ℕ) (s : State) → feedOf xs (fedAs Bad s) ≡ fedAs Bad s
 unfolding feedOf endedLine joinedTo
 stuck [] s = refl
 stuck (b ∷ xs) s = ap (λ (f : Fed). feedOf xs f) (either (eqb b newline) (fedAs Bad s)) ∙ stuck xs s
 
-stuck-first : (xs : List ℕ) (s : State) → feedOf xs (fedAs BadFirst s) ≡ fedAs BadFirst s
+pub stuck-first : (xs : List ℕ) (s : State) → feedOf xs (fedAs BadFirst s) ≡ fedAs BadFirst s
 unfolding feedOf endedLine joinedTo
 stuck-first [] s = refl
 stuck-first (b ∷ xs) s = ap (λ (f : Fed). feedOf xs f) (either (eqb b newline) (fedAs BadFirst s)) ∙ stuck-first xs s

@@ -1,7 +1,6 @@
 -- The marked cases hold: one statement over the whole table, computed. And demand 3 speaks of something: the first marked stream is one of its cases.
-use mathlib.Core.Bool.{true}
-use mathlib.Core.List.{List, [], _∷_}
-use mathlib.Core.Path.{_≡_, refl}
+use mathlib.Core.List.{[], _∷_}
+use mathlib.Core.Path.{refl}
 use native.Mathlib.Omega.{arith}
 use lib.Dec.{T}
 use lib.ListN.{replicate}
@@ -10,10 +9,10 @@ use Rattle.registers.specs.State.{state, places}
 use Rattle.registers.specs.Table.{rowAt}
 use Rattle.engine.specs.Command.{commandOf}
 use Rattle.engine.specs.Display.{storedOf, placeOf, nextAddress}
-use Rattle.engine.specs.Step.{Fit, refusalOf, applied, accepted, stepOf}
+use Rattle.engine.specs.Step.{refusalOf, applied, accepted, stepOf}
 use Rattle.glass.specs.Glass.{placeRefusal, glassRefusal, glassOf}
 use Rattle.text.specs.Decimal.{numberOf}
-use Rattle.text.specs.Text.{bytes, findOf}
+use Rattle.text.specs.Text.{bytes}
 use Rattle.lists.specs.declared.Line.the-variants.{Fill}
 use Rattle.lists.specs.Line.{lineOf}
 use Rattle.lists.specs.Lists.{readingFrom, readingOf}

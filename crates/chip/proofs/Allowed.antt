@@ -1,21 +1,20 @@
 -- An allowed record stays allowed after any accepted event, and the lent memories keep their length.
-use mathlib.Core.Path.{_≡_, refl, sym, ap, _∙_, subst}
-use mathlib.Core.Bool.{Bool, true, false, cond, _&&_}
-use mathlib.Core.List.{List}
-use Prim.Native.Nat.{ℕ, zero, suc, _+_, _≤_, _<_, zero-le}
+use mathlib.Core.Path.{_≡_, refl, _∙_}
+use mathlib.Core.Bool.{Bool, true, false, cond}
+use Prim.Native.Nat.{ℕ, _+_, _≤_, zero-le}
 use native.Mathlib.Omega.{arith}
-use borrow.Author.Tests.{ltb-true, ltb-false, le-leb}
+use borrow.Author.Tests.{ltb-true}
 use lib.Dec.{leb, ltb, eqb}
-use lib.ListN.{length, set, length-set}
+use lib.ListN.{length, length-set}
 use Rattle.registers.specs.declared.Registers.{Registers}
 use Rattle.registers.specs.declared.Chip.{Chip}
 use Rattle.registers.specs.declared.Phase.{Phase}
 use Rattle.registers.specs.declared.Phase.the-variants.{Idle, AddressAwaited, Ignoring, ControlAwaited, OneByte, EndlessBytes, Reading, ReadEnded}
 use Rattle.registers.specs.Places.{X, Y}
 use Rattle.registers.specs.Record.{put, allowed, allowedRegisters, withRegisters, inPhase}
-use Rattle.registers.specs.State.{State, state, places}
+use Rattle.registers.specs.State.{State, state}
 use Rattle.registers.specs.Table.{rowAt}
-use Rattle.registers.proofs.Within.{register-bound, allowed-registers, both-left, both-right}
+use Rattle.registers.proofs.Within.{register-bound, allowed-registers, both-right}
 use Rattle.registers.proofs.Put.{put-allowed}
 use Rattle.registers.proofs.Parts.{taken-allowed, row-room}
 use Rattle.engine.specs.declared.event.Event.{Event}
@@ -23,7 +22,7 @@ use Rattle.engine.specs.declared.event.Event.the-variants.{Byte, Start, Stop, R
 use Rattle.engine.specs.Command.{commandOf, partsAt}
 use Rattle.engine.specs.Display.{next, nextOnWrap, nextX, nextY, nextAddress, placeOf, storedOf}
 use Rattle.engine.specs.Event.{eventOf}
-use Rattle.engine.specs.Step.{After, Fit, contentOf, onByte, applied, accepted, counted}
+use Rattle.engine.specs.Step.{Fit, contentOf, onByte, applied, accepted, counted}
 use Rattle.engine.proofs.Steps.{counted-fit}
 
 -- ---- the registers

@@ -1,23 +1,21 @@
 -- What each kind of event does, where it is not refused.
-use mathlib.Core.Bool.{Bool, true, false, cond, not}
-use mathlib.Core.List.{List}
-use mathlib.Core.Path.{_≡_, refl, sym, ap, _∙_, subst}
+use mathlib.Core.Bool.{true, false, not}
+use mathlib.Core.Path.{_≡_, refl, ap, _∙_}
 use Prim.Native.Nat.{ℕ, _+_, _<_}
 use native.Mathlib.Omega.{arith}
 use borrow.Author.Tests.{lt-ltb}
 use lib.ListN.{set}
-use Rattle.registers.specs.declared.Chip.{Chip}
 use Rattle.registers.specs.declared.Phase.{Phase}
 use Rattle.registers.specs.declared.Phase.the-variants.{Idle, AddressAwaited, Ignoring, ControlAwaited, OneByte, EndlessBytes, Reading, ReadEnded}
 use Rattle.registers.specs.Record.{inPhase, withRegisters}
 use Rattle.registers.specs.State.{State, state}
 use Rattle.registers.proofs.Below.{false-true}
 use Rattle.engine.specs.declared.event.Event.{Event}
-use Rattle.engine.specs.declared.event.Event.the-variants.{Byte, Start, Stop, ReadAcknowledged, ReadNotAcknowledged, Reset, Sensor, Unlisted}
+use Rattle.engine.specs.declared.event.Event.the-variants.{Byte, Sensor}
 use Rattle.engine.specs.Event.{eventOf}
 use Rattle.engine.specs.Step.{onByte, applied, accepted}
 use Rattle.chip.specs.Phases.{awaitsData, awaitsCommand, isDeaf, afterContent, afterUnheard}
-use Rattle.chip.specs.Promised.{Answer, Refused, Nothing, Acknowledged, NotAcknowledged, Read, After, after, refusalOf, stepOf, counted, isAddressed, acknowledge, phaseAfterAddress, controlled, readByte, phaseAfterLastRead, pulsed, sensed, commandOf, storedOf, placeOf, nextAddress}
+use Rattle.chip.specs.Promised.{Acknowledged, NotAcknowledged, after, refusalOf, stepOf, counted, commandOf, storedOf, placeOf, nextAddress}
 use Rattle.chip.specs.Effects.{plain, displayed}
 use Rattle.chip.proofs.Refusals.{accepted-step, past-low}
 

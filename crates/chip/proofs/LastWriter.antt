@@ -1,5 +1,5 @@
 -- Demand 2 over whole runs: each place of the memories names the last display byte that landed there.
-use mathlib.Core.Bool.{Bool, true, false, cond, _&&_}
+use mathlib.Core.Bool.{Bool, true, false, cond}
 use mathlib.Core.List.{List, [], _∷_}
 use mathlib.Core.Logic.{_⊎_, inl, inr}
 use mathlib.Core.Path.{_≡_, refl, sym, ap, _∙_, subst}
@@ -10,7 +10,7 @@ use native.Mathlib.Numerals.{one-add}
 use native.Mathlib.Omega.{arith}
 use borrow.Author.Tests.{le-ltb}
 use lib.Dec.{eqb, ltb}
-use lib.ListN.{getD, set, length}
+use lib.ListN.{getD, set}
 use lib.Seq.{getD-set-same, getD-set-other}
 use Rattle.registers.specs.declared.Phase.{Phase}
 use Rattle.registers.specs.declared.Phase.the-variants.{Idle, AddressAwaited, Ignoring, ControlAwaited, OneByte, EndlessBytes, Reading, ReadEnded}
@@ -21,13 +21,12 @@ use Rattle.engine.specs.declared.event.Event.the-variants.{Byte, Start, Stop, R
 use Rattle.engine.specs.Event.{eventOf}
 use Rattle.engine.specs.Run
 use Rattle.engine.specs.Run.{unlessStopped}
-use Rattle.engine.specs.Step.{contentOf, onByte, applied, accepted, counted}
-use Rattle.engine.proofs.Refusals.{entry-fit}
+use Rattle.engine.specs.Step.{onByte, applied, accepted, counted}
 use Rattle.engine.proofs.Memory.{place-bound, fit-x, fit-y}
 use Rattle.chip.specs.Effects.{displayed}
-use Rattle.chip.specs.LastWriter.{Lands, before, Untouched, Written, LastWriter}
+use Rattle.chip.specs.LastWriter.{Lands, before, Untouched, Written}
 use Rattle.chip.specs.Phases.{awaitsData}
-use Rattle.chip.specs.Promised.{After, Fit, Outcome, outcome, Acknowledged, entryRefusal, refusalOf, stepOf, runFrom, placeOf, storedOf}
+use Rattle.chip.specs.Promised.{After, Fit, Outcome, refusalOf, stepOf, runFrom, placeOf, storedOf}
 use Rattle.chip.proofs.Allowed.{accepted-fit}
 use Rattle.chip.proofs.Events.{display-step, byte-event}
 use Rattle.chip.proofs.Refusals.{accepted-step}

@@ -1,20 +1,20 @@
 -- Runs of display bytes paint rectangles, one X or one bank wide; rectangles that touch join.
 use mathlib.Core.Bool.{Bool, true, false, cond}
-use mathlib.Core.List.{List, [], _∷_}
+use mathlib.Core.List.{List}
 use mathlib.Core.Path.{_≡_, refl, sym, ap, _∙_, subst}
 use Prim.Native.Nat.{ℕ, zero, suc, _+_, _*_, _/_, _%_, _-_, _≤_, _<_}
 use native.Mathlib.Decide.{decLe, decLt, ℕ-discrete}
 use native.Mathlib.Omega.{arith}
 use borrow.Author.Tests.{eq-eqb, ne-eqb, lt-ltb}
-use lib.Dec.{eqb, ltb, T, eqb→eq, ltb→lt}
+use lib.Dec.{eqb, ltb, eqb→eq, ltb→lt}
 use lib.ListN.{getD, set, length, replicate, length-set}
 use lib.Seq.{getD-set-same, getD-set-other}
 use Rattle.registers.specs.declared.Registers.{Registers}
 use Rattle.registers.specs.Places.{X, Y}
 use Rattle.registers.specs.Record.{put}
 use Rattle.registers.specs.Reversed.{reversedOf, ordered}
-use Rattle.registers.proofs.Below.{allBelow, below-at}
-use Rattle.engine.specs.Display.{storedOf, placeOf, nextAddress, nextX, nextY}
+use Rattle.registers.proofs.Below.{below-at}
+use Rattle.engine.specs.Display.{storedOf, placeOf, nextAddress}
 use Rattle.chip.specs.Paint.{mirrored, In, Paints}
 use Rattle.chip.specs.Plays
 use Rattle.chip.specs.Plays.{written}

@@ -1,27 +1,25 @@
 -- Playing: joining, weakening, and what is said of the whole at the end. Then the two kinds of message.
-use mathlib.Core.Bool.{Bool, true, false, cond}
+use mathlib.Core.Bool.{true, false}
 use mathlib.Core.List.{List, [], _∷_, _++_}
-use mathlib.Core.Logic.{_⊎_, inl, inr}
+use mathlib.Core.Logic.{inl}
 use mathlib.Core.Path.{_≡_, refl, sym, ap, _∙_, subst}
-use Prim.Native.Nat.{ℕ, zero, suc, _+_, _*_, _/_, _%_, _^_, _<_, _≤_, zero-le}
+use Prim.Native.Nat.{ℕ, zero, suc, _+_, _*_, _/_, _%_, _<_, _≤_}
 use native.Mathlib.Nat.{add-zero, zero-add, le-of-suc-le-suc, not-suc-le-zero}
 use native.Mathlib.Omega.{arith}
 use borrow.Author.Tests.{eq-eqb}
 use lib.Dec.{eqb}
 use lib.ListN.{getD, length, set, length-append}
 use Rattle.registers.specs.declared.Registers.{Registers}
-use Rattle.registers.specs.declared.Chip.{Chip}
 use Rattle.registers.specs.declared.Phase.{Phase}
 use Rattle.registers.specs.declared.Phase.the-variants.{Idle, AddressAwaited, ControlAwaited, OneByte, EndlessBytes}
-use Rattle.registers.specs.Record.{inPhase, withRegisters}
 use Rattle.registers.specs.State.{State}
 use Rattle.engine.specs.Run.{runOf, unlessStopped}
 use Rattle.engine.specs.Step.{accepted}
 use Rattle.engine.proofs.Refusals.{fit-entry}
 use Rattle.chip.specs.LastWriter.{before}
 use Rattle.chip.specs.Plays.{Good, Plays, played, Sees, writeAddress, singles, message, dataMessage, commanded, advanced, written, Bytes}
-use Rattle.chip.specs.Promised.{Acknowledged, After, Fit, refusalOf, stepOf, runFrom, outcome, commandOf, storedOf, placeOf, nextAddress, isAddressed, acknowledge, phaseAfterAddress, counted, controlled}
-use Rattle.chip.specs.When.{Listed, When}
+use Rattle.chip.specs.Promised.{Acknowledged, After, Fit, refusalOf, stepOf, runFrom, outcome, commandOf, storedOf, placeOf, nextAddress, isAddressed}
+use Rattle.chip.specs.When.{Listed}
 use Rattle.chip.proofs.Laws.{exactly-when, stays-fit, count-law, start-law, stop-law, address-law, control-law, command-law, display-law}
 use Rattle.registers.proofs.Within.{allowed-pins}
 use Rattle.chip.proofs.Refusals.{accepted-step}

@@ -1,7 +1,7 @@
 -- Exactly when each refusal comes.
-use mathlib.Core.Bool.{Bool, true, false, cond, not, _&&_, _||_}
-use mathlib.Core.Logic.{_⊎_, inl, inr, _↔_}
-use mathlib.Core.Path.{_≡_, refl, sym, ap, _∙_, subst}
+use mathlib.Core.Bool.{Bool, true, false, cond, not, _||_}
+use mathlib.Core.Logic.{inl, inr}
+use mathlib.Core.Path.{_≡_, refl, sym, _∙_}
 use Prim.Native.Nat.{ℕ, zero, suc, _-_, _^_, _≤_, _<_}
 use native.Mathlib.Decide.{decLe, ℕ-discrete}
 use native.Mathlib.Omega.{arith}
@@ -11,11 +11,9 @@ use lib.ListN.{length}
 use Rattle.registers.specs.Record.{allowed}
 use Rattle.registers.specs.State.{State, places}
 use Rattle.registers.proofs.Below.{true-false}
-use Rattle.engine.specs.declared.answer.Answer.the-variants.{Refused}
-use Rattle.engine.specs.declared.event.Event.{Event}
 use Rattle.engine.specs.declared.event.Event.the-variants.{Sensor, Unlisted}
 use Rattle.engine.specs.Event.{eventOf, isListed}
-use Rattle.engine.specs.Step.{After, Fit, refuse, _then_, refusalOf, accepted, stepOf, unlessRefused}
+use Rattle.engine.specs.Step.{refuse, _then_, refusalOf, accepted, stepOf}
 use Rattle.chip.specs.When.{Listed, Lengths, When}
 
 -- ---- listed events

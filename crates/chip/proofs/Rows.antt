@@ -1,22 +1,21 @@
 -- What command bytes do that were made from the table.
-use mathlib.Core.List.{List, [], _∷_, map}
-use mathlib.Core.Path.{_≡_, refl, sym, ap, _∙_, subst}
-use Prim.Native.Nat.{ℕ, zero, suc, _+_, _*_, _≤_, _<_}
+use mathlib.Core.List.{List, [], _∷_}
+use mathlib.Core.Path.{_≡_, refl, sym, ap, _∙_}
+use Prim.Native.Nat.{ℕ, _+_, _*_, _≤_, _<_}
 use native.Mathlib.Omega.{arith}
 use borrow.Author.Tests.{le-leb}
-use lib.Dec.{T, eqb, eqb→eq}
-use lib.ListN.{getD, List·getD-map}
+use lib.Dec.{eqb, eqb→eq}
+use lib.ListN.{List·getD-map}
 use Rattle.registers.specs.declared.Registers.{Registers}
 use Rattle.registers.specs.Encode.{rowByte, aimed}
 use Rattle.registers.specs.Places.{H, X, Y}
 use Rattle.registers.specs.Record.{put, blank}
-use Rattle.registers.specs.Table.{Row, Part, rows, noRow, rowAt, taken, pageReturn}
-use Rattle.registers.proofs.Below.{allBelow, below-at}
+use Rattle.registers.specs.Table.{Row, Part, rows, noRow, rowAt, taken}
+use Rattle.registers.proofs.Below.{below-at}
 use Rattle.registers.proofs.Encode.{FitParts, row-says, row-found, says-taken}
 use Rattle.registers.proofs.TableTest.{rowNo}
 use Rattle.engine.specs.Command.{commandOf, partsAt}
 use Rattle.engine.specs.Display.{nextAddress}
-use Rattle.engine.proofs.Commands.{page-zero}
 use Rattle.chip.specs.Plays
 use Rattle.chip.specs.Plays.{commanded, advanced}
 

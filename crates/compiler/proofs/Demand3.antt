@@ -1,14 +1,14 @@
 -- Demand 3 over the lines of a list, by induction along it.
 use mathlib.Core.List.{List, [], _∷_, _++_}
-use mathlib.Core.Path.{_≡_, refl, sym, ap, _∙_, subst}
-use Prim.Native.Nat.{ℕ, zero, suc, _+_, _^_, _≤_, _<_}
-use native.Mathlib.Nat.{add-assoc, add-zero}
+use mathlib.Core.Path.{_≡_, refl, ap, _∙_, subst}
+use Prim.Native.Nat.{ℕ, _+_, _^_, _<_}
+use native.Mathlib.Nat.{add-assoc}
 use native.Mathlib.Omega.{arith}
 use lib.ListN.{length, length-append}
 use Rattle.registers.specs.declared.Registers.{Registers}
 use Rattle.registers.specs.Record.{blank}
 use Rattle.registers.specs.State.{State}
-use Rattle.chip.specs.Plays.{Plays, Sees}
+use Rattle.chip.specs.Plays.{Plays}
 use Rattle.chip.specs.Promised.{Fit}
 use Rattle.chip.proofs.Plays.{plays-none, plays-append, plays-weaken, plays-end, plays-good, plays-run}
 use Rattle.lists.specs.declared.Line.{Line}

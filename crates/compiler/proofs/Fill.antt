@@ -1,14 +1,13 @@
 -- A whole fill, whatever V and MX are: its events leave the cells that the plain reading says.
 use mathlib.Core.Bool.{Bool, true, false, cond, _&&_}
-use mathlib.Core.List.{List, [], _∷_, _++_}
+use mathlib.Core.List.{List, [], _∷_}
 use mathlib.Core.Path.{_≡_, refl, sym, ap, _∙_, subst}
 use Prim.Native.Nat.{ℕ, zero, suc, _+_, _-_, _/_, _%_, _≤_, _<_}
 use native.Mathlib.Nat.{zero-add, suc-add, add-suc, add-zero, le-of-suc-le-suc, not-suc-le-zero}
-use native.Mathlib.Decide.{ℕ-discrete}
 use native.Mathlib.Omega.{arith}
-use borrow.Author.Tests.{eq-eqb, ne-eqb, eqb-true, eqb-false, leb-true, le-leb}
+use borrow.Author.Tests.{eqb-true, eqb-false, leb-true, le-leb}
 use lib.Dec.{eqb, leb}
-use lib.ListN.{getD, length, List·getD-eq-default}
+use lib.ListN.{getD, length}
 use lib.Seq.{ext-getD}
 use Rattle.registers.specs.declared.Registers.{Registers}
 use Rattle.registers.specs.Places.{«V»}
@@ -16,12 +15,13 @@ use Rattle.registers.specs.Record.{blank}
 use Rattle.registers.specs.State.{State}
 use Rattle.registers.proofs.Below.{true-false}
 use Rattle.registers.proofs.Within.{register-bound, both-left, both-right}
-use Rattle.chip.specs.Paint.{In, Paints, mirrored}
+use Rattle.chip.specs.Paint.{In, Paints}
 use Rattle.chip.specs.Plays.{Plays, Sees}
 use Rattle.chip.proofs.Plays.{plays-weaken}
+use Rattle.lists.specs.Spelling.{Cells}
 use Rattle.compiler.specs.Plain.{isInside, filledFrom, filled}
 use Rattle.compiler.specs.Stream.{across, down, fill, firstX}
-use Rattle.compiler.proofs.Fills.{Drawn, seen-allowed, seen-length, across-plays, down-plays}
+use Rattle.compiler.proofs.Fills.{Drawn, seen-allowed, across-plays, down-plays}
 
 -- ---- the plain reading paints the same cells
 
@@ -90,16 +90,7 @@ first-low false c0 c1 o l = (omega arith, omega arith)
 
 -- ---- the fill
 
--- what lineOf lets pass
-pub record FillFits (c0 c1 b0 b1 n : ℕ) : Type 0 where
-  pub columns : c0 ≤ c1
-  pub last-column : c1 ≤ 100
-  pub banks : b0 ≤ b1
-  pub last-bank : b1 ≤ 16
-  pub byte : n < 256
-  pub six-bits : b1 ≡ 16 → n < 64
-
-module _ (mx c0 c1 b0 b1 n : ℕ) (fits : FillFits c0 c1 b0 b1 n) (m m′ : List ℕ) (paints : Paints (In mx (firstX mx c0 c1) (c1 - c0 + 1) b0 (b1 - b0 + 1)) n m m′) where
+module _ (mx c0 c1 b0 b1 n : ℕ) (fits : Cells c0 c1 b0 b1 n) (m m′ : List ℕ) (paints : Paints (In mx (firstX mx c0 c1) (c1 - c0 + 1) b0 (b1 - b0 + 1)) n m m′) where
   pub painted-plain : m′ ≡ filled c0 c1 b0 b1 n m
   painted-plain =
       ext-getD 0 m′ (filled c0 c1 b0 b1 n m) (paints .same-length ∙ sym (filled-length c0 c1 b0 b1 n m))
@@ -126,7 +117,7 @@ pub record Shows (q : Registers) (m : List ℕ) (pins n : ℕ) (s : State) : Typ
   pub same : blank full ≡ q
 
 pub fill-plays :
-    (c0 c1 b0 b1 n : ℕ) → FillFits c0 c1 b0 b1 n → (q : Registers) (m : List ℕ) (pins k : ℕ) (s : State) → Shows q m pins (length (fill pins q c0 c1 b0 b1 n) + k) s
+    (c0 c1 b0 b1 n : ℕ) → Cells c0 c1 b0 b1 n → (q : Registers) (m : List ℕ) (pins k : ℕ) (s : State) → Shows q m pins (length (fill pins q c0 c1 b0 b1 n) + k) s
     → Plays (fill pins q c0 c1 b0 b1 n) (Shows q (filled c0 c1 b0 b1 n m) pins k) s
 fill-plays c0 c1 b0 b1 n fits q m pins k s shows = go (eqb (q .v) 1) refl
   where
@@ -156,8 +147,8 @@ fill-plays c0 c1 b0 b1 n fits q m pins k s shows = go (eqb (q .v) 1) refl
         subst (λ (x : Bool). Plays (cond x D A) (Shows q (filled c0 c1 b0 b1 n m) pins k) s) (sym e)
         (end D
         (down-plays (c1 - c0 + 1) (shows .full) q (firstX (q .mx) c0 c1) (b1 - b0 + 1) b0 n pins k m s (shows .same) (eqb-true _ _ e) (low .0)
-        (omega (arith, fits .banks, fits .last-bank)) (omega (arith, fits .banks, fits .last-bank)) (fits .byte)
-        (λ w. fits .six-bits (omega (arith, fits .banks)))
+        (omega (arith, fits .banks, fits .last-bank)) (omega (arith, fits .banks, fits .last-bank)) (omega (arith, fits .byte))
+        (λ w. omega (arith, fits .six-bits (omega (arith, fits .banks))))
         (subst (λ (x : Bool). Sees (shows .full) m pins (length (cond x D A) + k) s) e (shows .sees))))
     go false e =
         let D = down pins q b0 (b1 - b0 + 1) n (firstX (q .mx) c0 c1) (c1 - c0 + 1) in
@@ -165,6 +156,6 @@ fill-plays c0 c1 b0 b1 n fits q m pins k s shows = go (eqb (q .v) 1) refl
         subst (λ (x : Bool). Plays (cond x D A) (Shows q (filled c0 c1 b0 b1 n m) pins k) s) (sym e)
         (end A
         (across-plays (b1 - b0 + 1) (shows .full) q (firstX (q .mx) c0 c1) (c1 - c0 + 1) b0 n pins k m s (shows .same)
-        (omega (arith, v-low, eqb-false (q .v) 1 e)) (low .0) (low .1) (omega (arith, fits .banks, fits .last-bank)) (fits .byte)
-        (λ w. fits .six-bits (omega (arith, fits .banks)))
+        (omega (arith, v-low, eqb-false (q .v) 1 e)) (low .0) (low .1) (omega (arith, fits .banks, fits .last-bank)) (omega (arith, fits .byte))
+        (λ w. omega (arith, fits .six-bits (omega (arith, fits .banks))))
         (subst (λ (x : Bool). Sees (shows .full) m pins (length (cond x D A) + k) s) e (shows .sees))))

@@ -1,13 +1,13 @@
 -- A fill's events paint its rectangle, and leave the registers but H, X and Y.
 use mathlib.Core.Bool.{Bool, true, false, cond}
 use mathlib.Core.List.{List, [], _∷_, _++_}
-use mathlib.Core.Path.{_≡_, refl, sym, ap, _∙_, subst}
-use Prim.Native.Nat.{ℕ, zero, suc, _+_, _*_, _-_, _/_, _%_, _≤_, _<_}
+use mathlib.Core.Path.{_≡_, sym, ap, _∙_, subst}
+use Prim.Native.Nat.{ℕ, zero, suc, _+_, _-_, _/_, _%_, _≤_, _<_}
 use native.Mathlib.Nat.{add-assoc}
 use native.Mathlib.Decide.{decLt}
 use native.Mathlib.Omega.{arith}
 use lib.Dec.{eqb}
-use lib.ListN.{getD, length, replicate, length-append}
+use lib.ListN.{length, replicate, length-append}
 use Rattle.registers.specs.declared.Registers.{Registers}
 use Rattle.registers.specs.Places.{H, X, Y}
 use Rattle.registers.specs.Record.{put, blank, allowedRegisters}
@@ -15,11 +15,11 @@ use Rattle.registers.specs.Reversed.{reversedOf, ordered}
 use Rattle.registers.specs.State.{State, places}
 use Rattle.registers.proofs.Within.{register-bound, allowed-registers}
 use Rattle.chip.specs.Paint.{In, Paints, mirrored}
-use Rattle.chip.specs.Plays.{Plays, Sees, Bytes, dataMessage, commanded, advanced, written}
+use Rattle.chip.specs.Plays.{Plays, Sees, Bytes, commanded, advanced, written}
 use Rattle.chip.proofs.Paint.{reversed-byte, paints-none, paints-both, in-or-out, across-paints, down-paints}
 use Rattle.chip.proofs.Plays.{plays-none, plays-append, plays-weaken, data-message-plays}
 use Rattle.chip.proofs.Rows.{address-commands, advanced-blank}
-use Rattle.compiler.specs.Stream.{run, across, down, fill, firstX}
+use Rattle.compiler.specs.Stream.{run, across, down}
 
 -- a state that shows these registers but H, X and Y, and the memory m with b painted inside
 pub record Drawn (Inside : ℕ → Type 0) (b : ℕ) (m : List ℕ) (q : Registers) (pins n : ℕ) (s : State) : Type 0 where

@@ -2,8 +2,7 @@
 use mathlib.Core.Bool.{Bool, not, _&&_}
 use mathlib.Core.List.{List, [], _∷_}
 use mathlib.Core.Path.{_≡_, sym, subst}
-use Prim.Native.Nat.{ℕ, _≤_, _<_}
-use native.Mathlib.Omega.{arith}
+use Prim.Native.Nat.{ℕ, _≤_}
 use lib.Dec.{T, eqb, ltb, ltb→lt, eqb-refl, T-not}
 use lib.ListN.{getD}
 use Rattle.registers.specs.Places.{H, X, Y}
@@ -12,13 +11,12 @@ use Rattle.registers.proofs.Below.{allBelow, below-at, and-left, and-right}
 use Rattle.lists.specs.declared.Line.{Line}
 use Rattle.lists.specs.declared.Line.the-variants.{Fill, Set}
 use Rattle.lists.specs.Fields.{fieldPlaces}
-use Rattle.lists.specs.Spelling.{Sound, AllSound}
-use Rattle.compiler.proofs.Fill.{FillFits}
+use Rattle.lists.specs.Spelling.{Cells, Sound, AllSound}
 use Rattle.compiler.proofs.Set.{SetFits}
 
 -- what a line that is accepted keeps to
 abbrev pub LineFits : Line → Type 0
-LineFits (Fill c0 c1 b0 b1 n) = FillFits c0 c1 b0 b1 n
+LineFits (Fill c0 c1 b0 b1 n) = Cells c0 c1 b0 b1 n
 LineFits (Set f n) = SetFits f n
 
 abbrev pub AllFit : List Line → Type 0
@@ -50,15 +48,7 @@ named-fits f n t v =
 -- what the grammar lets pass keeps to the limits
 pub line-fits : (l : Line) → Sound l → LineFits l
 unfolding Sound
-line-fits (Fill c0 c1 b0 b1 n) s =
-    record {
-      columns = s .columns;
-      last-column = s .last-column;
-      banks = s .banks;
-      last-bank = s .last-bank;
-      byte = omega (arith, s .byte);
-      six-bits = λ e. omega (arith, s .six-bits e);
-    }
+line-fits (Fill c0 c1 b0 b1 n) s = s
 line-fits (Set f n) s =
     named-fits f n
     (subst (λ (g : ℕ). T (nameable g)) (sym (s .place)) (below-at 25 (λ (k : ℕ). nameable (getD fieldPlaces k 0)) all-nameable (s .field) (s .known)))

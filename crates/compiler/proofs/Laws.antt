@@ -11,7 +11,6 @@ use lib.ListN.{length}
 use lib.Seq.{sets}
 use Rattle.registers.specs.declared.Chip.{Chip}
 use Rattle.registers.specs.Record.{allowed, blank}
-use Rattle.lists.specs.declared.Line.{Line}
 use Rattle.lists.specs.Lists.{Reading, faulty, lines, readingFrom, readingOf, newlines}
 use Rattle.compiler.specs.declared.answer.Compiled.{Compiled}
 use Rattle.compiler.specs.declared.answer.Compiled.the-variants.{Done, Refused, BadLine, Short}

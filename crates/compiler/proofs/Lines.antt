@@ -1,18 +1,15 @@
 -- One line: the message of a set, how many events and bytes a line has, and the line told by its kind.
-use mathlib.Core.Bool.{Bool, cond}
 use mathlib.Core.List.{List, [], _∷_, _++_}
 use mathlib.Core.Path.{_≡_, refl, sym, ap, _∙_, subst}
-use Prim.Native.Nat.{ℕ, zero, suc, _+_, _*_, _-_, _≤_, _<_}
-use native.Mathlib.Nat.{mul-le-mul}
+use Prim.Native.Nat.{ℕ, _+_, _*_, _-_, _≤_, _<_}
 use native.Mathlib.Omega.{arith}
-use lib.Dec.{eqb}
 use lib.ListN.{getD, length, take, drop, drop-of-length-le, length-take}
 use Rattle.registers.specs.declared.Registers.{Registers}
 use Rattle.text.proofs.Finding.{drop-next}
 use Rattle.chip.specs.Plays.{writeAddress, singles, message, Bytes}
 use Rattle.lists.specs.declared.Line.{Line}
 use Rattle.lists.specs.declared.Line.the-variants.{Fill, Set}
-use Rattle.lists.specs.Spelling.{Cells, Setting, Sound}
+use Rattle.lists.specs.Spelling.{Cells, Sound}
 use Rattle.compiler.specs.Plain.{setTo, registersAfter}
 use Rattle.compiler.specs.Stream.{fill, setCommands, lineEvents, byteEvents}
 use Rattle.compiler.specs.Writes.{Wrote, Tracked, fillCount, setLength}

@@ -2,8 +2,8 @@
 use mathlib.Core.Bool.{Bool, true, false, cond}
 use mathlib.Core.List.{List, [], _∷_, _++_}
 use mathlib.Core.Path.{_≡_, refl, sym, ap, _∙_, subst}
-use Prim.Native.Nat.{ℕ, zero, suc, _+_, _*_, _-_, _^_, _≤_, _<_}
-use native.Mathlib.Nat.{add-assoc, zero-add, add-zero, mul-le-mul}
+use Prim.Native.Nat.{ℕ, suc, _+_, _*_, _-_, _^_, _≤_, _<_}
+use native.Mathlib.Nat.{zero-add, add-zero, mul-le-mul}
 use native.Mathlib.Omega.{arith}
 use lib.Dec.{eqb, ltb}
 use lib.ListN.{length, drop, length-append}
@@ -16,11 +16,10 @@ use Rattle.lists.specs.declared.Parsed.the-variants.{Good, Bad}
 use Rattle.lists.specs.Lists.{Reading, faulty, lines, alsoLine, readingFrom, readingOf, newlines, lineAt}
 use Rattle.lists.specs.Spelling.{Sound, AllSound}
 use Rattle.lists.proofs.Positions.{reading-bad, reading-good, reading-next, reading-end, reading-whole, line-sound, newlines-left}
-use Rattle.compiler.specs.declared.measure.Measured.{Measured}
 use Rattle.compiler.specs.declared.measure.Measured.the-variants.{Fault, Whole}
 use Rattle.compiler.specs.Compile.{measureFrom, measureOf, linesOf}
 use Rattle.compiler.specs.Plain.{setTo, registersAfter}
-use Rattle.compiler.specs.Stream.{fill, setCommands, lineEvents, stream, byteEvents}
+use Rattle.compiler.specs.Stream.{fill, lineEvents, stream, byteEvents}
 use Rattle.compiler.specs.Writes.{Wrote, Tracked, fillCount}
 use Rattle.compiler.proofs.Clocks.{bytes-append, fill-length}
 use Rattle.compiler.proofs.Emits.{wrote-then, wrote-none}

@@ -2,20 +2,18 @@
 use mathlib.Core.Bool.{Bool, true, false, cond}
 use mathlib.Core.List.{List, [], _∷_, _++_}
 use mathlib.Core.Path.{_≡_, refl, sym, ap, _∙_, subst}
-use Prim.Native.Nat.{ℕ, zero, suc, _+_, _-_, _%_, _^_, _≤_, _<_, zero-le}
-use native.Mathlib.Nat.{le-trans}
+use Prim.Native.Nat.{ℕ, _+_, _-_, _%_, _≤_, _<_, zero-le}
 use native.Mathlib.Decide.{ℕ-discrete}
 use native.Mathlib.Omega.{arith}
 use borrow.Author.Tests.{eq-eqb, ne-eqb, le-leb, leb-true}
-use lib.Dec.{T, eqb, leb, eqb→eq}
+use lib.Dec.{eqb, leb, eqb→eq}
 use lib.ListN.{getD, length}
 use Rattle.registers.specs.declared.Registers.{Registers}
-use Rattle.registers.specs.Encode.{held, rowByte, aimed, isGrey, hasField, rowFor}
+use Rattle.registers.specs.Encode.{rowByte, aimed, isGrey, hasField, rowFor}
 use Rattle.registers.specs.Places.{H, X, Y, GR, GS0, GS3}
-use Rattle.registers.specs.Record.{values, limits, put, blank, allowedRegisters}
+use Rattle.registers.specs.Record.{limits, put, blank, allowedRegisters}
 use Rattle.registers.specs.State.{State}
-use Rattle.registers.specs.Table.{Part, rows, noRow}
-use Rattle.registers.proofs.Below.{allBelow, below-at, true-false}
+use Rattle.registers.proofs.Below.{below-at, true-false}
 use Rattle.registers.proofs.Parts.{grey-limit}
 use Rattle.registers.proofs.Encode.{FitParts, row-byte}
 use Rattle.registers.proofs.Put.{put-same, put-other, put-allowed}
@@ -27,7 +25,7 @@ use Rattle.chip.specs.Promised.{commandOf}
 use Rattle.chip.proofs.Plays.{plays-weaken, message-plays}
 use Rattle.chip.proofs.Rows.{row-command, return-command, page-command}
 use Rattle.compiler.specs.Plain.{setTo}
-use Rattle.compiler.specs.Stream.{pageOf, leave, enter, change, rowBytes, rowsFor, setCommands}
+use Rattle.compiler.specs.Stream.{pageOf, leave, change, rowBytes, setCommands}
 use Rattle.compiler.proofs.Fill.{Shows}
 use Rattle.compiler.proofs.Fills.{seen-allowed, seen-page}
 use Rattle.compiler.proofs.Sets.{at, simple-fits, aimed-at, partsFor, isApart, SimpleRow, simple-row, shows-target, blank-at, blank-self, put-at}

@@ -1,24 +1,23 @@
 -- A set's events leave its register as the plain reading says, and every other but H, X and Y as it was. Shown once over the rows.
 use mathlib.Core.Bool.{Bool, true, false, cond, not, _&&_, _||_}
-use mathlib.Core.List.{List, [], _∷_, _++_}
-use mathlib.Core.Path.{_≡_, refl, sym, ap, _∙_, subst}
-use Prim.Native.Nat.{ℕ, zero, suc, _+_, _-_, _*_, _%_, _^_, _≤_, _<_}
-use native.Mathlib.Nat.{le-trans, lt-of-le-of-lt}
-use native.Mathlib.Decide.{ℕ-discrete, decLt}
-use native.Mathlib.Omega.{arith}
-use borrow.Author.Tests.{eq-eqb, ne-eqb, eqb-true, eqb-false, le-leb, leb-true, leb-false}
-use lib.Dec.{T, eqb, leb, ltb, leb→le, ltb→lt, eqb→eq}
-use lib.ListN.{getD, set, length, length-set, List·getD-eq-default}
-use lib.Seq.{ext-getD, getD-set-same, getD-set-other}
+use mathlib.Core.List.{List, [], _∷_}
+use mathlib.Core.Path.{_≡_, refl, sym, ap, _∙_}
+use Prim.Native.Nat.{ℕ, _-_, _^_, _≤_, _<_}
+use native.Mathlib.Nat.{lt-of-le-of-lt}
+use native.Mathlib.Decide.{ℕ-discrete}
+use borrow.Author.Tests.{eq-eqb, ne-eqb}
+use lib.Dec.{T, eqb, leb, ltb, leb→le, ltb→lt}
+use lib.ListN.{getD, set}
+use lib.Seq.{ext-getD}
 use Rattle.registers.specs.declared.Registers.{Registers}
-use Rattle.registers.specs.Encode.{held, rowByte, aimed, isGrey, hasField, setsField, rowFor}
-use Rattle.registers.specs.Places.{H, X, Y, GR, GS0}
+use Rattle.registers.specs.Encode.{held, aimed, isGrey, hasField, setsField, rowFor}
+use Rattle.registers.specs.Places.{H, X, Y}
 use Rattle.registers.specs.Record.{values, ofValues, limits, put, blank, allowedRegisters}
-use Rattle.registers.specs.Table.{Target, Part, Row, rows, noRow, putTo}
+use Rattle.registers.specs.Table.{Target, Part, rows, noRow, putTo}
 use Rattle.registers.specs.Table.Target.{register, bounded, selected, unheld}
 use Rattle.registers.proofs.Below.{allBelow, below-at, and-left, and-right, true-false}
 use Rattle.registers.proofs.Encode.{FitParts}
-use Rattle.registers.proofs.Put.{put-same, put-other, put-allowed}
+use Rattle.registers.proofs.Put.{put-same, put-other}
 use Rattle.registers.proofs.Within.{register-bound}
 
 -- ---- rows whose parts are registers

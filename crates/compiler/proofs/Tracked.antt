@@ -1,14 +1,12 @@
 -- The registers that a list is compiled from stay blank and within their widths along it.
 use mathlib.Core.Bool.{Bool, true, false, cond}
-use mathlib.Core.List.{List}
-use mathlib.Core.Path.{_≡_, refl, sym, subst}
-use Prim.Native.Nat.{ℕ, _+_, _-_, _≤_, _<_}
+use mathlib.Core.Path.{_≡_, refl, subst}
+use Prim.Native.Nat.{ℕ, _-_, _≤_}
 use native.Mathlib.Omega.{arith}
-use lib.ListN.{getD}
 use Rattle.registers.specs.declared.Registers.{Registers}
 use Rattle.registers.specs.Encode.{isGrey}
-use Rattle.registers.specs.Places.{H, X, Y, GR, GS0}
-use Rattle.registers.specs.Record.{values, limits, put, blank, allowedRegisters}
+use Rattle.registers.specs.Places.{H, GR, GS0}
+use Rattle.registers.specs.Record.{put, blank, allowedRegisters}
 use Rattle.registers.proofs.Put.{put-allowed}
 use Rattle.registers.proofs.Within.{register-bound}
 use Rattle.chip.specs.Plays.{Bytes}

@@ -1,6 +1,6 @@
 -- The ways through `compile`: each gives what the definition says, and what it wrote draws the list.
 use mathlib.Core.Bool.{Bool, true, false, cond}
-use mathlib.Core.List.{List, []}
+use mathlib.Core.List.{List}
 use mathlib.Core.Path.{_≡_, refl, sym, ap, _∙_, subst}
 use Prim.Native.Nat.{ℕ, _+_, _*_, _^_, _≤_, _<_}
 use native.Mathlib.Omega.{arith}
@@ -13,7 +13,6 @@ use Rattle.registers.specs.declared.Registers.{Registers}
 use Rattle.registers.specs.Record.{allowed, allowedRegisters, blank}
 use Rattle.registers.specs.State.{state}
 use Rattle.registers.proofs.Within.{both-left, both-right}
-use Rattle.chip.specs.Promised.{Fit}
 use Rattle.lists.specs.declared.Line.{Line}
 use Rattle.lists.specs.Lists.{Reading, faulty, lines, readingOf, newlines}
 use Rattle.lists.proofs.Readings.{Accepted, reading-accepted}

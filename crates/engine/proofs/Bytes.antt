@@ -1,5 +1,5 @@
 -- Ways through the code of a byte, over plain variables.
-use mathlib.Core.Path.{_≡_, sym, subst}
+use mathlib.Core.Path.{_≡_, refl, sym, _∙_, subst}
 use mathlib.Core.Bool.{Bool, true, false}
 use mathlib.Core.List.{List}
 use Prim.Native.Nat.{ℕ}
@@ -7,12 +7,13 @@ use lib.ListN.{set}
 use Rattle.registers.specs.declared.Registers.{Registers}
 use Rattle.registers.specs.declared.Chip.{Chip}
 use Rattle.registers.specs.declared.Phase.{Phase}
+use Rattle.registers.specs.declared.Phase.the-variants.{Idle, AddressAwaited, Ignoring, ControlAwaited, OneByte, EndlessBytes, Reading, ReadEnded}
 use Rattle.registers.specs.Record.{inPhase, withRegisters}
 use Rattle.registers.specs.State.{State}
 use Rattle.engine.specs.declared.answer.Answer.the-variants.{Acknowledged}
 use Rattle.engine.specs.Command.{commandOf}
 use Rattle.engine.specs.Display.{storedOf, placeOf, nextAddress}
-use Rattle.engine.specs.Step.{After, after, contentOf, onByte}
+use Rattle.engine.specs.Step.{After, after, contentOf, onByte, awaitsContent, contentRs, phaseAfterContent}
 
 module _ (rs : Bool) (p : Phase) (b number : ℕ) (s : State) where
   pub display-content :
@@ -32,3 +33,24 @@ module _ (rs : Bool) (p : Phase) (b number : ℕ) (s : State) where
 -- the phase is told: what is right in that phase is right
 pub in-told-phase : (told phase : Phase) (b number : ℕ) (s : State) (a : After) → phase ≡ told → a ≡ onByte told b number s → a ≡ onByte phase b number s
 in-told-phase told phase b number s a e h = subst (λ (p : Phase). a ≡ onByte p b number s) (sym e) h
+
+-- where content is awaited, the phase says its RS and what comes after it
+in-content-phase : (p : Phase) (b number : ℕ) (s : State) → awaitsContent p ≡ true → contentOf (contentRs p) (phaseAfterContent p) b number s ≡ onByte p b number s
+in-content-phase Idle b number s t = cc
+in-content-phase AddressAwaited b number s t = cc
+in-content-phase Ignoring b number s t = cc
+in-content-phase ControlAwaited b number s t = cc
+in-content-phase (OneByte rs) b number s t = refl
+in-content-phase (EndlessBytes rs) b number s t = refl
+in-content-phase Reading b number s t = cc
+in-content-phase ReadEnded b number s t = cc
+
+pub content-taken :
+    (p next : Phase) (rs awaits : Bool) (b number : ℕ) (s : State) (a : After)
+    → awaits ≡ awaitsContent p → awaits ≡ true → rs ≡ contentRs p → next ≡ phaseAfterContent p → a ≡ contentOf rs next b number s
+    → a ≡ onByte p b number s
+content-taken p next rs awaits b number s a e t er en h = h ∙ rw (er, en) (in-content-phase p b number s (sym e ∙ t))
+
+-- the phase is told, and is not one that awaits content
+pub no-content : (told phase : Phase) (a a′ : After) → phase ≡ told → awaitsContent told ≡ true → awaitsContent phase ≡ false → a ≡ a′
+no-content told phase a a′ e t f = cc

@@ -1,14 +1,13 @@
 -- What an allowed record gives the display memory: an address is within it.
-use mathlib.Core.Path.{_≡_, refl, sym, ap, _∙_}
 use mathlib.Core.Bool.{Bool, true, false, cond}
-use Prim.Native.Nat.{ℕ, zero, suc, _+_, _*_, _-_, _≤_, _<_}
+use Prim.Native.Nat.{ℕ, _-_, _≤_, _<_}
 use native.Mathlib.Omega.{arith}
 use lib.Dec.{eqb}
 use Rattle.registers.specs.declared.Registers.{Registers}
 use Rattle.registers.specs.Places.{X, Y}
 use Rattle.registers.specs.State.{State}
 use Rattle.registers.proofs.Within.{register-bound, allowed-registers, allowed-pins}
-use Rattle.engine.specs.Display.{columnOf, placeOf}
+use Rattle.engine.specs.Display.{placeOf}
 use Rattle.engine.specs.Step.{Fit}
 
 column-bound : (t : Bool) (x : ℕ) → x ≤ 100 → cond t (100 - x) x ≤ 100

@@ -102,6 +102,39 @@ onByte (EndlessBytes rs) b number s = contentOf rs (EndlessBytes rs) b number s
 onByte Reading b number s = after NotAcknowledged (inPhase (s .chip) Ignoring) (s .memory) (s .writers)
 onByte ReadEnded b number s = after NotAcknowledged (inPhase (s .chip) Ignoring) (s .memory) (s .writers)
 
+-- ---- the phases that await content: a command or display data
+
+abbrev pub awaitsContent : Phase → Bool
+awaitsContent Idle = false
+awaitsContent AddressAwaited = false
+awaitsContent Ignoring = false
+awaitsContent ControlAwaited = false
+awaitsContent (OneByte rs) = true
+awaitsContent (EndlessBytes rs) = true
+awaitsContent Reading = false
+awaitsContent ReadEnded = false
+
+abbrev pub contentRs : Phase → Bool
+contentRs Idle = false
+contentRs AddressAwaited = false
+contentRs Ignoring = false
+contentRs ControlAwaited = false
+contentRs (OneByte rs) = rs
+contentRs (EndlessBytes rs) = rs
+contentRs Reading = false
+contentRs ReadEnded = false
+
+-- one byte is over when it is there; endless bytes go on
+abbrev pub phaseAfterContent : Phase → Phase
+phaseAfterContent Idle = Idle
+phaseAfterContent AddressAwaited = AddressAwaited
+phaseAfterContent Ignoring = Ignoring
+phaseAfterContent ControlAwaited = ControlAwaited
+phaseAfterContent (OneByte rs) = ControlAwaited
+phaseAfterContent (EndlessBytes rs) = EndlessBytes rs
+phaseAfterContent Reading = Reading
+phaseAfterContent ReadEnded = ReadEnded
+
 abbrev pub isReading : Phase → Bool
 isReading Idle = false
 isReading AddressAwaited = false

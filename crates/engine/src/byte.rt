@@ -1,8 +1,12 @@
 // A byte from the master, in each phase.
 ghost use mathlib.Core.Path.{_≡_};
-ghost use Prim.Native.Nat.{_≤_};
+ghost use mathlib.Core.Bool.{false};
+ghost use mathlib.Core.List.{List};
+ghost use Prim.Native.Nat.{ℕ, _≤_};
+ghost use Rattle.registers.specs.Record.{inPhase};
 ghost use Rattle.registers.specs.State.{state};
-ghost use Rattle.engine.specs.Step.{Fit, after, contentOf, onByte, controlled, isAddressed, acknowledge, phaseAfterAddress, phaseAfterControl, rsOf};
+ghost use Rattle.engine.specs.declared.answer.Answer.the-variants.{NotAcknowledged};
+ghost use Rattle.engine.specs.Step.{Fit, after, contentOf, onByte, controlled, isAddressed, acknowledge, phaseAfterAddress, phaseAfterControl, rsOf, awaitsContent, contentRs, phaseAfterContent};
 use crate::answer::Answer;
 use crate::step::Stepped;
 use registers::Chip;
@@ -67,6 +71,98 @@ fn controlled(chip: Chip, byte: u8) -> Chip
     next
 }
 
+// A command or display data comes next.
+fn awaits_content(phase: Phase) -> bool
+    ensures { λ r. ⌜ r ≡ awaitsContent phase ⌝ }
+{
+    match phase {
+        Phase::Idle => false,
+        Phase::AddressAwaited => false,
+        Phase::Ignoring => false,
+        Phase::ControlAwaited => false,
+        Phase::OneByte(_) => true,
+        Phase::EndlessBytes(_) => true,
+        Phase::Reading => false,
+        Phase::ReadEnded => false,
+    }
+}
+
+fn content_rs(phase: Phase) -> bool
+    ensures { λ r. ⌜ r ≡ contentRs phase ⌝ }
+{
+    match phase {
+        Phase::Idle => false,
+        Phase::AddressAwaited => false,
+        Phase::Ignoring => false,
+        Phase::ControlAwaited => false,
+        Phase::OneByte(rs) => rs,
+        Phase::EndlessBytes(rs) => rs,
+        Phase::Reading => false,
+        Phase::ReadEnded => false,
+    }
+}
+
+// One byte is over when it is there; endless bytes go on.
+fn phase_after_content(phase: Phase) -> Phase
+    ensures { λ r. ⌜ r ≡ phaseAfterContent phase ⌝ }
+{
+    match phase {
+        Phase::Idle => phase,
+        Phase::AddressAwaited => phase,
+        Phase::Ignoring => phase,
+        Phase::ControlAwaited => phase,
+        Phase::OneByte(_) => Phase::ControlAwaited,
+        Phase::EndlessBytes(_) => phase,
+        Phase::Reading => phase,
+        Phase::ReadEnded => phase,
+    }
+}
+
+fn not_acknowledged(chip: Chip) -> Stepped
+    ensures { λ r. ⌜ r .answer ≡ NotAcknowledged ⌝ }
+    ensures { λ r. ⌜ r .chip ≡ chip ⌝ }
+{
+    Stepped {
+        answer: Answer::NotAcknowledged,
+        chip,
+    }
+}
+
+fn on_address(byte: u8, chip: Chip) -> Stepped
+    requires { ⌜ chip .pins ≤ 3 ⌝ }
+    ensures { λ r. ⌜ r .answer ≡ acknowledge (isAddressed (chip .pins) byte) ⌝ }
+    ensures { λ r. ⌜ r .chip ≡ inPhase chip (phaseAfterAddress (isAddressed (chip .pins) byte) byte) ⌝ }
+{
+    let matched = is_addressed(chip.pins, byte);
+    Stepped {
+        answer: acknowledge(matched),
+        chip: chip.in_phase(phase_after_address(matched, byte)),
+    }
+}
+
+// A byte where no content is awaited: it touches no memory.
+fn on_plain_byte(byte: u8, chip: Chip) -> Stepped
+    requires { ⌜ chip .pins ≤ 3 ⌝ }
+    requires { ⌜ awaitsContent (chip .phase) ≡ false ⌝ }
+    ensures { λ r. ⌜ ((number : ℕ) (m w : List ℕ) → after (r .answer) (r .chip) m w ≡ onByte (chip .phase) byte number (state chip m w)) ⌝ }
+{
+    let phase = chip.phase;
+    match phase {
+        Phase::Idle => not_acknowledged(chip),
+        Phase::AddressAwaited => on_address(byte, chip),
+        Phase::Ignoring => not_acknowledged(chip),
+        Phase::ControlAwaited => Stepped {
+            answer: Answer::Acknowledged,
+            chip: controlled(chip, byte),
+        },
+        // these two await content
+        Phase::OneByte(_) => not_acknowledged(chip),
+        Phase::EndlessBytes(_) => not_acknowledged(chip),
+        Phase::Reading => not_acknowledged(chip.in_phase(Phase::Ignoring)),
+        Phase::ReadEnded => not_acknowledged(chip.in_phase(Phase::Ignoring)),
+    }
+}
+
 // A byte after a control byte: a command where RS is 0, display data where it is 1. Then the bus is in the given phase.
 fn content(
     rs: bool,
@@ -96,60 +192,16 @@ fn content(
     }
 }
 
+// Content is called from one place alone, so that the chip's record is not copied for it.
 pub fn on_byte(byte: u8, number: u64, chip: Chip, memory: &mut [u8], writers: &mut [u64]) -> Stepped
     requires { ⌜ Fit (state chip (now memory) (now writers)) ⌝ }
     ensures { λ r. ⌜ after (r .answer) (r .chip) (now (memory .exit)) (now (writers .exit)) ≡ onByte (chip .phase) byte number (state chip (now (memory .entry)) (now (writers .entry))) ⌝ }
 {
     let phase = chip.phase;
-    match phase {
-        Phase::Idle => Stepped {
-            answer: Answer::NotAcknowledged,
-            chip,
-        },
-        Phase::AddressAwaited => {
-            let matched = is_addressed(chip.pins, byte);
-            Stepped {
-                answer: acknowledge(matched),
-                chip: chip.in_phase(phase_after_address(matched, byte)),
-            }
-        }
-        Phase::Ignoring => Stepped {
-            answer: Answer::NotAcknowledged,
-            chip,
-        },
-        Phase::ControlAwaited => Stepped {
-            answer: Answer::Acknowledged,
-            chip: controlled(chip, byte),
-        },
-        Phase::OneByte(rs) => {
-            content(
-                rs,
-                Phase::ControlAwaited,
-                byte,
-                number,
-                chip,
-                memory,
-                writers,
-            )
-        }
-        Phase::EndlessBytes(rs) => {
-            content(
-                rs,
-                Phase::EndlessBytes(rs),
-                byte,
-                number,
-                chip,
-                memory,
-                writers,
-            )
-        }
-        Phase::Reading => Stepped {
-            answer: Answer::NotAcknowledged,
-            chip: chip.in_phase(Phase::Ignoring),
-        },
-        Phase::ReadEnded => Stepped {
-            answer: Answer::NotAcknowledged,
-            chip: chip.in_phase(Phase::Ignoring),
-        },
+    if awaits_content(phase) {
+        let rs = content_rs(phase);
+        let next = phase_after_content(phase);
+        return content(rs, next, byte, number, chip, memory, writers);
     }
+    on_plain_byte(byte, chip)
 }

@@ -8,4 +8,5 @@ mod event;
 mod plain;
 mod refusal;
 pub mod run;
+mod sequence;
 pub mod step;

@@ -15,33 +15,11 @@ pub struct Ran {
 pub fn run(chip: Chip, memory: &mut [u8], writers: &mut [u64], events: &[u16]) -> Ran
     ensures { λ r. ⌜ outcome (r .done) (r .refusal) (state (r .chip) (now (memory .exit)) (now (writers .exit))) ≡ runOf (now (events .entry)) (state chip (now (memory .entry)) (now (writers .entry))) ⌝ }
 {
-    let entry = crate::refusal::at_entry(chip, memory.len(), writers.len());
-    if entry != 0 {
-        return Ran {
-            done: 0,
-            refusal: entry,
-            chip,
-        };
-    }
-    let mut now_chip = chip;
-    let mut done = 0;
-    while done < events.len() {
-        let event = events[done];
-        let refused = crate::refusal::of_event(event, now_chip, memory.len(), writers.len());
-        if refused != 0 {
-            return Ran {
-                done,
-                refusal: refused,
-                chip: now_chip,
-            };
-        }
-        let stepped = crate::apply::accept(event, now_chip, memory, writers);
-        now_chip = stepped.chip;
-        done += 1;
-    }
+    let performed = crate::sequence::perform(chip, memory, writers, events);
+    let chip = performed.chip;
     Ran {
-        done,
-        refusal: 0,
-        chip: now_chip,
+        done: performed.done,
+        refusal: performed.refusal,
+        chip,
     }
 }

@@ -15,12 +15,9 @@ pub struct Stepped {
 pub fn step(event: u16, chip: Chip, memory: &mut [u8], writers: &mut [u64]) -> Stepped
     ensures { λ r. ⌜ after (r .answer) (r .chip) (now (memory .exit)) (now (writers .exit)) ≡ stepOf event (state chip (now (memory .entry)) (now (writers .entry))) ⌝ }
 {
-    let refused = crate::refusal::of_event(event, chip, memory.len(), writers.len());
-    if refused != 0 {
-        return Stepped {
-            answer: Answer::Refused(refused),
-            chip,
-        };
-    }
-    crate::apply::accept(event, chip, memory, writers)
+    let events = [event];
+    let performed = crate::sequence::perform(chip, memory, writers, &events);
+    let answer = performed.answer;
+    let chip = performed.chip;
+    Stepped { answer, chip }
 }

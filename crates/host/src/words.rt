@@ -2,8 +2,7 @@
 ghost use mathlib.Core.Path.{_≡_};
 ghost use mathlib.Core.Bool.{true};
 ghost use mathlib.Core.List.{_++_};
-ghost use Prim.Native.Nat.{_<_};
-ghost use lib.ListN.{length, getD, take, drop};
+ghost use lib.ListN.{length, take, drop};
 ghost use Rattle.registers.specs.Record.{within, values, ofValues};
 ghost use Rattle.host.specs.Words.{wordLimits, standsFor, chipOf, wordsOf, bit};
 use registers::Chip;
@@ -15,28 +14,55 @@ fn wide(byte: u8) -> u64
     byte as u64
 }
 
-// The largest values of the words behind the registers: pins, status byte, last RS, phase, the phase's RS, count.
-const REST: [u64; 6] = [3, 255, 1, 7, 1, 18446744073709551615];
+// The largest value of each word: the registers, then pins, status byte, last RS, phase, the phase's RS, count.
+const LIMITS: [u64; 35] = [
+    4,
+    1,
+    1,
+    1,
+    1,
+    1,
+    1,
+    1,
+    1,
+    100,
+    16,
+    7,
+    1,
+    7,
+    1,
+    1,
+    7,
+    7,
+    1,
+    127,
+    3,
+    63,
+    63,
+    63,
+    63,
+    1,
+    1,
+    1,
+    1,
+    3,
+    255,
+    1,
+    7,
+    1,
+    18446744073709551615,
+];
 
-// The largest value of a word.
-fn limit(word: usize) -> u64
-    requires { ⌜ word < 35 ⌝ }
-    ensures { λ r. ⌜ r ≡ getD wordLimits word 0 ⌝ }
-{
-    if word < 29 {
-        return wide(registers::limits::limit(word));
-    }
-    REST[word - 29]
-}
-
+// The limits are laid out once, before the words are gone through: a constant is laid out anew wherever it is named.
 fn within_limits(words: &[u64]) -> bool
     requires { ⌜ length (now words) ≡ 35 ⌝ }
     ensures { λ r. ⌜ r ≡ within true (now (words .entry)) wordLimits ⌝ }
 {
+    let limits = LIMITS;
     let mut fine = true;
     let mut i = 0;
     while i < 35 {
-        fine = fine & (words[i] <= limit(i));
+        fine = fine & (words[i] <= limits[i]);
         i += 1;
     }
     fine

@@ -1,8 +1,7 @@
 // The instruction table as data, in the order of docs/INSTRUCTIONS.md, and the search for a byte's row.
 ghost use mathlib.Core.Path.{_≡_};
-ghost use Prim.Native.Nat.{_<_};
 ghost use lib.ListN.{getD};
-ghost use Rattle.registers.specs.Table.{rowAt, matchesAt};
+ghost use Rattle.registers.specs.Table.{rowAt};
 ghost use Rattle.registers.specs.Data.{pages, codes, masks, partRows, partTargets, partLows, partWidths};
 use crate::entry::entry;
 
@@ -222,21 +221,17 @@ const PART_WIDTHS: [u8; 29] = [
     1,
 ];
 
-// Whether row i, of those there are, stands in the page and takes the byte.
-fn row_matches(i: usize, page: u8, byte: u8) -> bool
-    requires { ⌜ i < 21 ⌝ }
-    ensures { λ r. ⌜ r ≡ matchesAt i page byte ⌝ }
-{
-    ((PAGES[i] == page) | (PAGES[i] == 8)) & (byte & FIXED[i] == CODES[i])
-}
-
-// The number of the row that takes this byte in this page, or ROWS.
+// The number of the row that takes this byte in this page, or ROWS. The tables are laid out once, before the search: a constant
+// is laid out anew wherever it is named.
 pub fn find(page: u8, byte: u8) -> usize
     ensures { λ r. ⌜ r ≡ rowAt page byte ⌝ }
 {
+    let pages = PAGES;
+    let fixed = FIXED;
+    let codes = CODES;
     let mut i = 0;
     while i < 21 {
-        if row_matches(i, page, byte) {
+        if ((pages[i] == page) | (pages[i] == 8)) & (byte & fixed[i] == codes[i]) {
             return i;
         }
         i += 1;

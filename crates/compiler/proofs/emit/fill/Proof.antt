@@ -4,43 +4,28 @@ use native.Mathlib.Omega.{arith}
 use borrow.Author.Needs.{needs}
 use Rattle.compiler.proofs.emit.fill.Statement.{statement}
 use Rattle.compiler.proofs.emit.fill.Tie as tie
-use Rattle.compiler.proofs.emit.fill.Reads as reads
-use Rattle.compiler.proofs.emit.fill.Lts as lts
-use Rattle.compiler.proofs.emit.first_x.Reads as first-x-reads
-use Rattle.compiler.proofs.emit.in_order.Reads as in-order-reads
-use Rattle.compiler.proofs.emit.runs.Reads as runs-reads
-use Rattle.compiler.proofs.emit.span.Reads as span-reads
-use Rattle.compiler.proofs.emit.wide.Reads as wide-reads
 
--- src/emit.rt:148:18
 first-x-requires : tie.Need-first-x-requires
 first-x-requires c κs = search needs
 
--- src/emit.rt:148:9
 wide-requires : tie.Need-wide-requires
 wide-requires c κs = search needs
 
--- src/emit.rt:149:9
 wide-requires-2 : tie.Need-wide-requires-2
 wide-requires-2 c κs = search needs
 
--- src/emit.rt:150:22
 in-order-requires : tie.Need-in-order-requires
 in-order-requires c κs = search needs
 
--- src/emit.rt:150:9
 wide-requires-3 : tie.Need-wide-requires-3
 wide-requires-3 c κs = search needs
 
--- src/emit.rt:151:9
 span-requires : tie.Need-span-requires
 span-requires c κs = search needs
 
--- src/emit.rt:152:9
 span-requires-2 : tie.Need-span-requires-2
 span-requires-2 c κs = search needs
 
--- src/emit.rt:154:9
 runs-requires : tie.Need-runs-requires
 runs-requires c κs =
     let a = c .before .before .before .before .before .before .before .before .before .before .before .args in
@@ -55,7 +40,6 @@ runs-requires c κs =
           (c .before .if1 .taken),
     )
 
--- src/emit.rt:156:9
 runs-requires-2 : tie.Need-runs-requires-2
 runs-requires-2 c κs =
     let a = c .before .before .before .before .before .before .before .before .before .before .before .args in
@@ -70,11 +54,9 @@ runs-requires-2 c κs =
           (c .before .if1 .left),
     )
 
--- src/emit.rt:126:1
 same-length : tie.Need-same-length
 same-length c = search needs
 
--- src/emit.rt:126:1
 returns : tie.Need-returns
 returns c =
     let a = c .before .before .before .before .before .before .before .before .before .before .before .before .before .before .args in
@@ -87,11 +69,9 @@ returns c =
     (c .before .before .before .before .if1 .taken)
     (c .before .before .runs .ensures)
 
--- src/emit.rt:126:1
 same-length-2 : tie.Need-same-length-2
 same-length-2 c = search needs
 
--- src/emit.rt:126:1
 returns-2 : tie.Need-returns-2
 returns-2 c =
     let a = c .before .before .before .before .before .before .before .before .before .before .before .before .before .before .args in

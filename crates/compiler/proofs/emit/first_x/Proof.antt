@@ -2,18 +2,13 @@ use borrow.Author.Tests.{eq-eqb, ne-eqb}
 use borrow.Author.Needs.{needs}
 use Rattle.compiler.proofs.emit.first_x.Statement.{statement}
 use Rattle.compiler.proofs.emit.first_x.Tie as tie
-use Rattle.compiler.proofs.emit.first_x.Reads as reads
-use Rattle.compiler.proofs.emit.first_x.Lts as lts
 
--- src/emit.rt:108:18
 sub-result : tie.Need-sub-result
 sub-result c = search needs
 
--- src/emit.rt:104:1
 returns : tie.Need-returns
 returns c = simp (eq-eqb _ _ (c .if1 .taken))
 
--- src/emit.rt:104:1
 returns-2 : tie.Need-returns-2
 returns-2 c = simp (ne-eqb _ _ (c .if1 .left))
 

@@ -2,19 +2,13 @@ use borrow.Author.Tests.{eq-eqb, ne-eqb}
 use borrow.Author.Needs.{needs}
 use Rattle.compiler.proofs.emit.in_order.Statement.{statement}
 use Rattle.compiler.proofs.emit.in_order.Tie as tie
-use Rattle.compiler.proofs.emit.in_order.Reads as reads
-use Rattle.compiler.proofs.emit.in_order.Lts as lts
-use Rattle.registers.proofs.reversed.reversed.Reads as reversed-reads
 
--- src/emit.rt:97:9
 reversed-requires : tie.Need-reversed-requires
 reversed-requires c κs = search needs
 
--- src/emit.rt:93:1
 returns : tie.Need-returns
 returns c = simp (eq-eqb _ _ (c .before .if1 .taken)) (c .reversed .ensures)
 
--- src/emit.rt:93:1
 returns-2 : tie.Need-returns-2
 returns-2 c = simp (ne-eqb _ _ (c .if1 .left))
 

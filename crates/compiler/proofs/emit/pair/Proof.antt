@@ -2,23 +2,16 @@ use Rattle.compiler.proofs.Emits.{wrote-then}
 use borrow.Author.Needs.{needs}
 use Rattle.compiler.proofs.emit.pair.Statement.{statement}
 use Rattle.compiler.proofs.emit.pair.Tie as tie
-use Rattle.compiler.proofs.emit.pair.Reads as reads
-use Rattle.compiler.proofs.emit.pair.Lts as lts
-use Rattle.compiler.proofs.emit.put.Reads as put-reads
 
--- src/emit.rt:25:9
 put-requires : tie.Need-put-requires
 put-requires c κs = search needs
 
--- src/emit.rt:26:5
 put-requires-2 : tie.Need-put-requires-2
 put-requires-2 c κs = search needs
 
--- src/emit.rt:21:1
 same-length : tie.Need-same-length
 same-length c = search needs
 
--- src/emit.rt:21:1
 returns : tie.Need-returns
 returns c = wrote-then (c .before .before .before .before .before .before .put .ensures) (c .before .before .put2 .ensures)
 

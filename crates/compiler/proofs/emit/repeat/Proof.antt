@@ -8,9 +8,6 @@ use Rattle.compiler.proofs.Emits.{repeat-turn, no-more}
 use borrow.Author.Needs.{needs}
 use Rattle.compiler.proofs.emit.repeat.Statement.{statement}
 use Rattle.compiler.proofs.emit.repeat.Tie as tie
-use Rattle.compiler.proofs.emit.repeat.Reads as reads
-use Rattle.compiler.proofs.emit.repeat.Lts as lts
-use Rattle.compiler.proofs.emit.put.Reads as put-reads
 
 abbrev Inv-loop : tie.InvT-loop
 Inv-loop out₀ at n event here₀ left₀ out here left =
@@ -21,23 +18,18 @@ Inv-loop out₀ at n event here₀ left₀ out here left =
 abbrev μ-loop : tie.MeasureT-loop
 μ-loop out₀ at n event here₀ left₀ out here left = left
 
--- src/emit.rt:36:5
 loop-holds : tie.Need-loop-holds Inv-loop μ-loop
 loop-holds c = (search needs, refl, λ l j w. w)
 
--- src/emit.rt:37:9
 put-requires : tie.Need-put-requires Inv-loop μ-loop
 put-requires c κs = search needs
 
--- src/emit.rt:38:9
 sub-left : tie.Need-sub-left Inv-loop μ-loop
 sub-left c = search needs
 
--- src/emit.rt:36:5
 loop-less : tie.Need-loop-less Inv-loop μ-loop
 loop-less c = search needs
 
--- src/emit.rt:36:5
 loop-again : tie.Need-loop-again Inv-loop μ-loop
 loop-again c = (
   search needs,
@@ -45,11 +37,9 @@ loop-again c = (
   λ l j w. c .before .before .before .before .before .loop .inv .2 l j (repeat-turn _ (c .before .before .before .before .loop-test .taken) (c .before .before .put .ensures) w),
 )
 
--- src/emit.rt:30:1
 same-length : tie.Need-same-length Inv-loop μ-loop
 same-length c = search needs
 
--- src/emit.rt:30:1
 returns : tie.Need-returns Inv-loop μ-loop
 returns c = c .before .loop .inv .2 _ _ (no-more _ _ (c .before .loop .left) (c .before .before .before .args .event) (omega arith))
 

@@ -8,9 +8,6 @@ use Rattle.compiler.proofs.Emits.{runs-turn, run-next, one-more, no-mor
 use borrow.Author.Needs.{needs}
 use Rattle.compiler.proofs.emit.runs.Statement.{statement}
 use Rattle.compiler.proofs.emit.runs.Tie as tie
-use Rattle.compiler.proofs.emit.runs.Reads as reads
-use Rattle.compiler.proofs.emit.runs.Lts as lts
-use Rattle.compiler.proofs.emit.run.Reads as run-reads
 
 abbrev Inv-loop : tie.InvT-loop
 Inv-loop out₀ at pins n event dx dy x y k here₀ now-x₀ now-y₀ left₀ out here now-x now-y left =
@@ -25,31 +22,24 @@ Inv-loop out₀ at pins n event dx dy x y k here₀ now-x₀ now-y₀ left₀ ou
 abbrev μ-loop : tie.MeasureT-loop
 μ-loop out₀ at pins n event dx dy x y k here₀ now-x₀ now-y₀ left₀ out here now-x now-y left = left
 
--- src/emit.rt:81:5
 loop-holds : tie.Need-loop-holds Inv-loop μ-loop
 loop-holds c = (search needs, refl, search needs, search needs, λ l j w. w)
 
--- src/emit.rt:82:9
 run-requires : tie.Need-run-requires Inv-loop μ-loop
 run-requires c κs = omega (arith, one-more (c .before .before .loop .left) (10 + c .before .before .before .before .args .n) (c .before .loop-test .taken))
 
--- src/emit.rt:83:9
 add-now-x : tie.Need-add-now-x Inv-loop μ-loop
 add-now-x c = search needs
 
--- src/emit.rt:84:9
 add-now-y : tie.Need-add-now-y Inv-loop μ-loop
 add-now-y c = search needs
 
--- src/emit.rt:85:9
 sub-left : tie.Need-sub-left Inv-loop μ-loop
 sub-left c = search needs
 
--- src/emit.rt:81:5
 loop-less : tie.Need-loop-less Inv-loop μ-loop
 loop-less c = search needs
 
--- src/emit.rt:81:5
 loop-again : tie.Need-loop-again Inv-loop μ-loop
 loop-again c = (
   omega (
@@ -63,11 +53,9 @@ loop-again c = (
   λ l j w. c .before .before .before .before .before .loop .inv .4 l j (runs-turn _ _ _ _ _ _ _ _ (c .before .before .before .before .loop-test .taken) (c .before .before .run .ensures) w),
 )
 
--- src/emit.rt:73:1
 same-length : tie.Need-same-length Inv-loop μ-loop
 same-length c = search needs
 
--- src/emit.rt:73:1
 returns : tie.Need-returns Inv-loop μ-loop
 returns c = c .before .loop .inv .4 _ _ (no-more-runs _ _ _ _ _ _ _ _ _ (c .before .loop .left) (omega arith))
 

@@ -1,4 +1,3 @@
-use mathlib.Core.Path.{sym, _∙_}
 use native.Mathlib.Omega.{arith}
 use Rattle.compiler.proofs.Lines.{message-wrote, said-length, said-next}
 use borrow.Author.Needs.{needs}

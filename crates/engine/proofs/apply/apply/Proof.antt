@@ -1,133 +1,121 @@
-use Rattle.engine.proofs.Steps.{in-told-event}
+use Rattle.engine.proofs.Steps.{in-told-event, in-told-plain-event}
+use Rattle.engine.specs.declared.answer.Answer.the-variants.{Read}
 use Rattle.engine.specs.Step.{applied}
-use mathlib.Core.Path.{refl}
+use Rattle.registers.specs.Record.{inPhase}
+use mathlib.Core.Path.{refl, ap, _∙_}
 use borrow.Author.Needs.{needs}
 use Rattle.engine.proofs.apply.apply.Statement.{statement}
 use Rattle.engine.proofs.apply.apply.Tie as tie
-use Rattle.engine.proofs.apply.apply.Reads as reads
-use Rattle.engine.proofs.apply.apply.Lts as lts
-use Rattle.engine.proofs.byte.on_byte.Reads as on-byte-reads
-use Rattle.engine.proofs.plain.phase_after_last_read.Reads as phase-after-last-read-reads
-use Rattle.engine.proofs.plain.pulsed.Reads as pulsed-reads
-use Rattle.engine.proofs.plain.read_byte.Reads as read-byte-reads
-use Rattle.engine.proofs.plain.sensed.Reads as sensed-reads
-use Rattle.registers.proofs.Chip.in_phase.Reads as in-phase-reads
 
--- src/step.rt:24:21
 enum-known-event : tie.Need-enum-known-event
 enum-known-event c = search needs
 
--- src/step.rt:24:30
 on-byte-requires : tie.Need-on-byte-requires
 on-byte-requires c κs = search needs
 
--- src/step.rt:26:21
 enum-told : tie.Need-enum-told
 enum-told c = search needs
 
--- src/step.rt:27:19
 in-phase-requires : tie.Need-in-phase-requires
 in-phase-requires c κs = search needs
 
--- src/step.rt:30:21
+without-answer-requires : tie.Need-without-answer-requires
+without-answer-requires c κs = search needs
+
 enum-told-2 : tie.Need-enum-told-2
 enum-told-2 c = search needs
 
--- src/step.rt:31:19
 in-phase-requires-2 : tie.Need-in-phase-requires-2
 in-phase-requires-2 c κs = search needs
 
--- src/step.rt:34:34
+without-answer-requires-2 : tie.Need-without-answer-requires-2
+without-answer-requires-2 c κs = search needs
+
 enum-told-3 : tie.Need-enum-told-3
 enum-told-3 c = search needs
 
--- src/step.rt:34:34
 read-byte-requires : tie.Need-read-byte-requires
 read-byte-requires c κs = search needs
 
--- src/step.rt:38:17
+with-byte-read-requires : tie.Need-with-byte-read-requires
+with-byte-read-requires c κs = search needs
+
 enum-told-4 : tie.Need-enum-told-4
 enum-told-4 c = search needs
 
--- src/step.rt:40:38
 read-byte-requires-2 : tie.Need-read-byte-requires-2
 read-byte-requires-2 c κs = search needs
 
--- src/step.rt:41:37
 phase-after-last-read-requires : tie.Need-phase-after-last-read-requires
 phase-after-last-read-requires c κs = search needs
 
--- src/step.rt:41:23
 in-phase-requires-3 : tie.Need-in-phase-requires-3
 in-phase-requires-3 c κs = search needs
 
--- src/step.rt:45:21
+with-byte-read-requires-2 : tie.Need-with-byte-read-requires-2
+with-byte-read-requires-2 c κs = search needs
+
 enum-told-5 : tie.Need-enum-told-5
 enum-told-5 c = search needs
 
--- src/step.rt:46:19
 pulsed-requires : tie.Need-pulsed-requires
 pulsed-requires c κs = search needs
 
--- src/step.rt:48:23
+without-answer-requires-3 : tie.Need-without-answer-requires-3
+without-answer-requires-3 c κs = search needs
+
 enum-known-event-2 : tie.Need-enum-known-event-2
 enum-known-event-2 c = search needs
 
--- src/step.rt:50:19
 sensed-requires : tie.Need-sensed-requires
 sensed-requires c κs = search needs
 
--- src/step.rt:53:21
+without-answer-requires-4 : tie.Need-without-answer-requires-4
+without-answer-requires-4 c κs = search needs
+
 enum-told-6 : tie.Need-enum-told-6
 enum-told-6 c = search needs
 
--- src/step.rt:19:1
+without-answer-requires-5 : tie.Need-without-answer-requires-5
+without-answer-requires-5 c κs = search needs
+
 same-length : tie.Need-same-length
 same-length c = search needs
 
--- src/step.rt:19:1
 same-length-2 : tie.Need-same-length-2
 same-length-2 c = search needs
 
--- src/step.rt:19:1
 returns : tie.Need-returns
 unfolding applied
 returns c = in-told-event _ _ _ _ _ (c .before .before .before .before .before .before .before .before .event .given .1) (c .before .before .before .before .on-byte .ensures)
 
--- src/step.rt:19:1
 returns-2 : tie.Need-returns-2
 unfolding applied
-returns-2 c = in-told-event _ _ _ _ _ (c .before .enum-told .given .1) (simp (c .in-phase .ensures))
+returns-2 c = in-told-plain-event _ _ _ _ _ _ _ _ (c .before .before .enum-told .given .1) (c .without-answer .ensures .0) (c .without-answer .ensures .1 ∙ c .before .in-phase .ensures) refl
 
--- src/step.rt:19:1
 returns-3 : tie.Need-returns-3
 unfolding applied
-returns-3 c = in-told-event _ _ _ _ _ (c .before .enum-told2 .given .1) (simp (c .in-phase2 .ensures))
+returns-3 c = in-told-plain-event _ _ _ _ _ _ _ _ (c .before .before .enum-told2 .given .1) (c .without-answer2 .ensures .0) (c .without-answer2 .ensures .1 ∙ c .before .in-phase2 .ensures) refl
 
--- src/step.rt:19:1
 returns-4 : tie.Need-returns-4
 unfolding applied
-returns-4 c = in-told-event _ _ _ _ _ (c .before .enum-told3 .given .1) (simp (c .read-byte .ensures))
+returns-4 c = in-told-plain-event _ _ _ _ _ _ _ _ (c .before .before .enum-told3 .given .1) (c .with-byte-read .ensures .0 ∙ ap Read (c .before .read-byte .ensures)) (c .with-byte-read .ensures .1) refl
 
--- src/step.rt:19:1
 returns-5 : tie.Need-returns-5
 unfolding applied
-returns-5 c = in-told-event _ _ _ _ _ (c .before .before .before .enum-told4 .given .1) (simp (c .in-phase3 .ensures, c .before .phase-after-last-read .ensures, c .before .before .read-byte2 .ensures))
+returns-5 c = in-told-plain-event _ _ _ _ _ _ _ _ (c .before .before .before .before .enum-told4 .given .1) (c .with-byte-read2 .ensures .0 ∙ ap Read (c .before .before .before .read-byte2 .ensures)) (c .with-byte-read2 .ensures .1 ∙ c .before .in-phase3 .ensures ∙ ap (inPhase (c .before .before .before .before .before .before .before .before .args .chip)) (c .before .before .phase-after-last-read .ensures)) refl
 
--- src/step.rt:19:1
 returns-6 : tie.Need-returns-6
 unfolding applied
-returns-6 c = in-told-event _ _ _ _ _ (c .before .enum-told5 .given .1) (simp (c .pulsed .ensures))
+returns-6 c = in-told-plain-event _ _ _ _ _ _ _ _ (c .before .before .enum-told5 .given .1) (c .without-answer3 .ensures .0) (c .without-answer3 .ensures .1 ∙ c .before .pulsed .ensures) refl
 
--- src/step.rt:19:1
 returns-7 : tie.Need-returns-7
 unfolding applied
-returns-7 c = in-told-event _ _ _ _ _ (c .before .before .event2 .given .1) (simp (c .sensed .ensures))
+returns-7 c = in-told-plain-event _ _ _ _ _ _ _ _ (c .before .before .before .event2 .given .1) (c .without-answer4 .ensures .0) (c .without-answer4 .ensures .1 ∙ c .before .sensed .ensures) refl
 
--- src/step.rt:19:1
 returns-8 : tie.Need-returns-8
 unfolding applied
-returns-8 c = in-told-event _ _ _ _ _ (c .enum-told6 .given .1) refl
+returns-8 c = in-told-plain-event _ _ _ _ _ _ _ _ (c .before .enum-told6 .given .1) (c .without-answer5 .ensures .0) (c .without-answer5 .ensures .1) refl
 
 pub apply-spec : {M : Type 1} → statement M
 apply-spec =
@@ -137,19 +125,26 @@ apply-spec =
     on-byte-requires
     enum-told
     in-phase-requires
+    without-answer-requires
     enum-told-2
     in-phase-requires-2
+    without-answer-requires-2
     enum-told-3
     read-byte-requires
+    with-byte-read-requires
     enum-told-4
     read-byte-requires-2
     phase-after-last-read-requires
     in-phase-requires-3
+    with-byte-read-requires-2
     enum-told-5
     pulsed-requires
+    without-answer-requires-3
     enum-known-event-2
     sensed-requires
+    without-answer-requires-4
     enum-told-6
+    without-answer-requires-5
     same-length
     same-length-2
     returns

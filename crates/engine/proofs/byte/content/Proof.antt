@@ -3,51 +3,36 @@ use Rattle.engine.proofs.Memory.{fit-x, fit-y}
 use borrow.Author.Needs.{needs}
 use Rattle.engine.proofs.byte.content.Statement.{statement}
 use Rattle.engine.proofs.byte.content.Tie as tie
-use Rattle.engine.proofs.byte.content.Reads as reads
-use Rattle.engine.proofs.byte.content.Lts as lts
-use Rattle.engine.proofs.command.command.Reads as command-reads
-use Rattle.engine.proofs.display.display_byte.Reads as display-byte-reads
-use Rattle.registers.proofs.Chip.in_phase.Reads as in-phase-reads
-use Rattle.registers.proofs.Chip.with_registers.Reads as with-registers-reads
 
--- src/byte.rt:84:9
 in-phase-requires : tie.Need-in-phase-requires
 in-phase-requires c κs = search needs
 
--- src/byte.rt:86:13
 display-byte-requires : tie.Need-display-byte-requires
 display-byte-requires c κs =
     let fit = c .before .before .before .before .before .before .before .pre in
     (fit-x _ fit, (fit-y _ fit, (fit .memory-long, fit .writers-long)))
 
--- src/byte.rt:89:19
 with-registers-requires : tie.Need-with-registers-requires
 with-registers-requires c κs = search needs
 
--- src/byte.rt:87:9
 same-length : tie.Need-same-length
 same-length c = search needs
 
--- src/byte.rt:87:9
 same-length-2 : tie.Need-same-length-2
 same-length-2 c = search needs
 
--- src/byte.rt:87:9
 returns : tie.Need-returns
 returns c =
     let stored = c .before .before .before .before .before .display-byte .ensures in
     display-content _ _ _ _ _ _ _ _ _ _ (c .before .before .before .before .before .before .before .before .if1 .taken)
     (c .before .before .before .before .before .before .before .before .before .in-phase .ensures) (stored .0) (stored .1 .0) (stored .1 .1) (c .with-registers .ensures)
 
--- src/byte.rt:92:9
 command-requires : tie.Need-command-requires
 command-requires c κs = search needs
 
--- src/byte.rt:95:15
 with-registers-requires-2 : tie.Need-with-registers-requires-2
 with-registers-requires-2 c κs = search needs
 
--- src/byte.rt:71:1
 returns-2 : tie.Need-returns-2
 returns-2 c =
     command-content _ _ _ _ _ _ _ _ (c .before .before .if1 .left) (c .before .before .before .in-phase .ensures) (c .before .command .ensures) (c .with-registers2 .ensures)

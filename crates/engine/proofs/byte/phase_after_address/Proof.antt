@@ -1,19 +1,14 @@
 use borrow.Author.Tests.{not-true, not-false}
-use borrow.Author.Tests.{eq-eqb, ne-eqb, lt-ltb, le-ltb, le-leb, lt-leb}
+use borrow.Author.Tests.{eq-eqb, ne-eqb}
 use Rattle.engine.proofs.byte.phase_after_address.Statement.{statement}
 use Rattle.engine.proofs.byte.phase_after_address.Tie as tie
-use Rattle.engine.proofs.byte.phase_after_address.Reads as reads
-use Rattle.engine.proofs.byte.phase_after_address.Lts as lts
 
--- src/byte.rt:34:9
 returns : tie.Need-returns
 returns c = simp (not-true (c .before .args .matched) (c .if1 .taken))
 
--- src/byte.rt:30:1
 returns-2 : tie.Need-returns-2
 returns-2 c = simp (not-false (c .before .before .args .matched) (c .before .if1 .left), eq-eqb _ _ (c .if2 .taken))
 
--- src/byte.rt:30:1
 returns-3 : tie.Need-returns-3
 returns-3 c = simp (not-false (c .before .before .args .matched) (c .before .if1 .left), ne-eqb _ _ (c .if2 .left))
 

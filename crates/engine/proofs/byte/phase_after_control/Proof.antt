@@ -1,20 +1,14 @@
-use borrow.Author.Tests.{eq-eqb, ne-eqb, lt-ltb, le-ltb, le-leb, lt-leb}
+use borrow.Author.Tests.{eq-eqb, ne-eqb}
 use borrow.Author.Needs.{needs}
 use Rattle.engine.proofs.byte.phase_after_control.Statement.{statement}
 use Rattle.engine.proofs.byte.phase_after_control.Tie as tie
-use Rattle.engine.proofs.byte.phase_after_control.Reads as reads
-use Rattle.engine.proofs.byte.phase_after_control.Lts as lts
-use Rattle.engine.proofs.byte.rs_of.Reads as rs-of-reads
 
--- src/byte.rt:54:9
 rs-of-requires : tie.Need-rs-of-requires
 rs-of-requires c κs = search needs
 
--- src/byte.rt:51:1
 returns : tie.Need-returns
 returns c = simp (c .before .rs-of .ensures, eq-eqb _ _ (c .if1 .taken))
 
--- src/byte.rt:51:1
 returns-2 : tie.Need-returns-2
 returns-2 c = simp (c .before .rs-of .ensures, ne-eqb _ _ (c .if1 .left))
 

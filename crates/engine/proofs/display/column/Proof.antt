@@ -1,19 +1,14 @@
-use borrow.Author.Tests.{eq-eqb, ne-eqb, lt-ltb, le-ltb, le-leb, lt-leb}
+use borrow.Author.Tests.{eq-eqb, ne-eqb}
 use borrow.Author.Needs.{needs}
 use Rattle.engine.proofs.display.column.Statement.{statement}
 use Rattle.engine.proofs.display.column.Tie as tie
-use Rattle.engine.proofs.display.column.Reads as reads
-use Rattle.engine.proofs.display.column.Lts as lts
 
--- src/display.rt:39:9
 sub-result : tie.Need-sub-result
 sub-result c = search needs
 
--- src/display.rt:34:1
 returns : tie.Need-returns
 returns c = simp (eq-eqb _ _ (c .before .if1 .taken))
 
--- src/display.rt:34:1
 returns-2 : tie.Need-returns-2
 returns-2 c = simp (ne-eqb _ _ (c .if1 .left))
 

@@ -1,20 +1,14 @@
-use borrow.Author.Tests.{eq-eqb, ne-eqb, lt-ltb, le-ltb, le-leb, lt-leb}
+use borrow.Author.Tests.{eq-eqb, ne-eqb}
 use borrow.Author.Needs.{needs}
 use Rattle.engine.proofs.display.in_order.Statement.{statement}
 use Rattle.engine.proofs.display.in_order.Tie as tie
-use Rattle.engine.proofs.display.in_order.Reads as reads
-use Rattle.engine.proofs.display.in_order.Lts as lts
-use Rattle.registers.proofs.reversed.reversed.Reads as reversed-reads
 
--- src/display.rt:13:9
 reversed-requires : tie.Need-reversed-requires
 reversed-requires c κs = search needs
 
--- src/display.rt:9:1
 returns : tie.Need-returns
 returns c = simp (eq-eqb _ _ (c .before .if1 .taken)) (c .reversed .ensures)
 
--- src/display.rt:9:1
 returns-2 : tie.Need-returns-2
 returns-2 c = simp (ne-eqb _ _ (c .if1 .left))
 

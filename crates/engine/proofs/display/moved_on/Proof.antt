@@ -1,35 +1,25 @@
 use Rattle.engine.specs.Display.{nextAddress}
-use borrow.Author.Tests.{eq-eqb, ne-eqb, lt-ltb, le-ltb, le-leb, lt-leb}
+use borrow.Author.Tests.{eq-eqb, ne-eqb}
 use borrow.Author.Needs.{needs}
 use Rattle.engine.proofs.display.moved_on.Statement.{statement}
 use Rattle.engine.proofs.display.moved_on.Tie as tie
-use Rattle.engine.proofs.display.moved_on.Reads as reads
-use Rattle.engine.proofs.display.moved_on.Lts as lts
-use Rattle.engine.proofs.display.following.Reads as following-reads
-use Rattle.engine.proofs.display.following_on_wrap.Reads as following-on-wrap-reads
 
--- src/display.rt:76:9
 following-on-wrap-requires : tie.Need-following-on-wrap-requires
 following-on-wrap-requires c κs = search needs
 
--- src/display.rt:77:9
 following-requires : tie.Need-following-requires
 following-requires c κs = search needs
 
--- src/display.rt:79:9
 following-requires-2 : tie.Need-following-requires-2
 following-requires-2 c κs = search needs
 
--- src/display.rt:80:9
 following-on-wrap-requires-2 : tie.Need-following-on-wrap-requires-2
 following-on-wrap-requires-2 c κs = search needs
 
--- src/display.rt:70:1
 returns : tie.Need-returns
 unfolding nextAddress
 returns c = simp (eq-eqb _ _ (c .before .before .if1 .taken), c .before .following-on-wrap .ensures, c .following .ensures)
 
--- src/display.rt:70:1
 returns-2 : tie.Need-returns-2
 unfolding nextAddress
 returns-2 c = simp (ne-eqb _ _ (c .before .before .if1 .left), c .before .following2 .ensures, c .following-on-wrap2 .ensures)

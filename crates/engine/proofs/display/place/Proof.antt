@@ -3,31 +3,22 @@ use Rattle.engine.specs.Display.{placeOf}
 use borrow.Author.Needs.{needs}
 use Rattle.engine.proofs.display.place.Statement.{statement}
 use Rattle.engine.proofs.display.place.Tie as tie
-use Rattle.engine.proofs.display.place.Reads as reads
-use Rattle.engine.proofs.display.place.Lts as lts
-use Rattle.engine.proofs.display.column.Reads as column-reads
 
--- src/display.rt:50:12
 cast-result : tie.Need-cast-result
 cast-result c = search needs
 
--- src/display.rt:50:5
 mul-result : tie.Need-mul-result
 mul-result c = search needs
 
--- src/display.rt:50:37
 column-requires : tie.Need-column-requires
 column-requires c κs = search needs
 
--- src/display.rt:50:37
 cast-result-2 : tie.Need-cast-result-2
 cast-result-2 c = search needs
 
--- src/display.rt:50:5
 add-result : tie.Need-add-result
 add-result c = search needs
 
--- src/display.rt:45:1
 returns : tie.Need-returns
 unfolding placeOf
 returns c = omega arith

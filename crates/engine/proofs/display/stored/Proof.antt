@@ -3,20 +3,13 @@ use mathlib.Core.Path.{_∙_, ap}
 use borrow.Author.Needs.{needs}
 use Rattle.engine.proofs.display.stored.Statement.{statement}
 use Rattle.engine.proofs.display.stored.Tie as tie
-use Rattle.engine.proofs.display.stored.Reads as reads
-use Rattle.engine.proofs.display.stored.Lts as lts
-use Rattle.engine.proofs.display.in_order.Reads as in-order-reads
-use Rattle.engine.proofs.display.kept_in_bank.Reads as kept-in-bank-reads
 
--- src/display.rt:30:31
 in-order-requires : tie.Need-in-order-requires
 in-order-requires c κs = search needs
 
--- src/display.rt:30:5
 kept-in-bank-requires : tie.Need-kept-in-bank-requires
 kept-in-bank-requires c κs = search needs
 
--- src/display.rt:27:1
 returns : tie.Need-returns
 unfolding storedOf
 returns c = c .kept-in-bank .ensures ∙ ap (kept (c .before .before .args .registers .y)) (c .before .in-order .ensures)

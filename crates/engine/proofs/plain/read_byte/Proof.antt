@@ -3,19 +3,13 @@ use mathlib.Core.Path.{sym, ap, _∙_}
 use borrow.Author.Needs.{needs}
 use Rattle.engine.proofs.plain.read_byte.Statement.{statement}
 use Rattle.engine.proofs.plain.read_byte.Tie as tie
-use Rattle.engine.proofs.plain.read_byte.Reads as reads
-use Rattle.engine.proofs.plain.read_byte.Lts as lts
-use Rattle.engine.proofs.plain.is_reading.Reads as is-reading-reads
 
--- src/plain.rt:27:8
 is-reading-requires : tie.Need-is-reading-requires
 is-reading-requires c κs = search needs
 
--- src/plain.rt:23:1
 returns : tie.Need-returns
 returns c = simp (ap (λ (t : Bool). t && not (c .before .before .before .args .chip .«last_rs»)) (sym (c .before .before .is-reading .ensures)) ∙ c .if1 .taken)
 
--- src/plain.rt:23:1
 returns-2 : tie.Need-returns-2
 returns-2 c = simp (ap (λ (t : Bool). t && not (c .before .before .before .args .chip .«last_rs»)) (sym (c .before .before .is-reading .ensures)) ∙ c .if1 .left)
 

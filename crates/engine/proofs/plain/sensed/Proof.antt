@@ -1,13 +1,9 @@
 use Rattle.engine.proofs.plain.sensed.Statement.{statement}
 use Rattle.engine.proofs.plain.sensed.Tie as tie
-use Rattle.engine.proofs.plain.sensed.Reads as reads
-use Rattle.engine.proofs.plain.sensed.Lts as lts
 
--- src/plain.rt:57:1
 returns : tie.Need-returns
 returns c = simp (c .if1 .taken)
 
--- src/plain.rt:57:1
 returns-2 : tie.Need-returns-2
 returns-2 c = simp (c .if1 .left)
 

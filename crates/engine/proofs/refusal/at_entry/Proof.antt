@@ -1,29 +1,21 @@
 use mathlib.Core.Path.{sym, _∙_}
-use borrow.Author.Tests.{eq-eqb, ne-eqb, lt-ltb, le-ltb, le-leb, lt-leb}
+use borrow.Author.Tests.{eq-eqb, ne-eqb}
 use borrow.Author.Needs.{needs}
 use Rattle.engine.proofs.refusal.at_entry.Statement.{statement}
 use Rattle.engine.proofs.refusal.at_entry.Tie as tie
-use Rattle.engine.proofs.refusal.at_entry.Reads as reads
-use Rattle.engine.proofs.refusal.at_entry.Lts as lts
-use Rattle.registers.proofs.Chip.allowed.Reads as allowed-reads
 
--- src/refusal.rt:12:9
 returns : tie.Need-returns
 returns c = simp (ne-eqb _ _ (c .if1 .taken))
 
--- src/refusal.rt:15:9
 returns-2 : tie.Need-returns-2
 returns-2 c = simp (eq-eqb _ _ (c .before .if1 .left), ne-eqb _ _ (c .if2 .taken))
 
--- src/refusal.rt:17:8
 allowed-requires : tie.Need-allowed-requires
 allowed-requires c κs = search needs
 
--- src/refusal.rt:8:1
 returns-3 : tie.Need-returns-3
 returns-3 c = simp (eq-eqb _ _ (c .before .before .before .if1 .left), eq-eqb _ _ (c .before .before .if2 .left), sym (c .before .allowed .ensures) ∙ c .if3 .taken)
 
--- src/refusal.rt:8:1
 returns-4 : tie.Need-returns-4
 returns-4 c = simp (eq-eqb _ _ (c .before .before .before .if1 .left), eq-eqb _ _ (c .before .before .if2 .left), sym (c .before .allowed .ensures) ∙ c .if3 .left)
 

@@ -6,29 +6,19 @@ use borrow.Author.Tests.{eq-eqb, ne-eqb, not-true, not-false}
 use borrow.Author.Needs.{needs}
 use Rattle.engine.proofs.refusal.of_event.Statement.{statement}
 use Rattle.engine.proofs.refusal.of_event.Tie as tie
-use Rattle.engine.proofs.refusal.of_event.Reads as reads
-use Rattle.engine.proofs.refusal.of_event.Lts as lts
-use Rattle.engine.proofs.event.Event.is_listed.Reads as is-listed-reads
-use Rattle.engine.proofs.event.Event.of.Reads as of-reads
-use Rattle.engine.proofs.refusal.at_entry.Reads as at-entry-reads
 
--- src/refusal.rt:24:9
 at-entry-requires : tie.Need-at-entry-requires
 at-entry-requires c κs = search needs
 
--- src/refusal.rt:26:9
 returns : tie.Need-returns
 returns c = refused-first _ _ _ (c .before .at-entry .ensures) (c .if1 .taken)
 
--- src/refusal.rt:28:9
 of-requires : tie.Need-of-requires
 of-requires c κs = search needs
 
--- src/refusal.rt:28:9
 is-listed-requires : tie.Need-is-listed-requires
 is-listed-requires c κs = search needs
 
--- src/refusal.rt:29:9
 returns-2 : tie.Need-returns-2
 returns-2 c =
     let unlisted : isListed (eventOf (c .before .before .before .before .before .args .event)) ≡ false =
@@ -36,7 +26,6 @@ returns-2 c =
     in
     refused-later _ _ _ _ (c .before .before .before .before .at-entry .ensures) (c .before .before .before .if1 .left) (simp unlisted)
 
--- src/refusal.rt:32:9
 returns-3 : tie.Need-returns-3
 returns-3 c =
     let listed : isListed (eventOf (c .before .before .before .before .before .before .before .args .event)) ≡ true =
@@ -45,7 +34,6 @@ returns-3 c =
     refused-later _ _ _ _ (c .before .before .before .before .before .before .at-entry .ensures) (c .before .before .before .before .before .if1 .left)
     (simp (listed, eq-eqb _ _ (c .if3 .taken)))
 
--- src/refusal.rt:21:1
 returns-4 : tie.Need-returns-4
 returns-4 c =
     let listed : isListed (eventOf (c .before .before .before .before .before .before .before .args .event)) ≡ true =

@@ -11,10 +11,10 @@ use Rattle.host.proofs.words.within_limits.Statement.{statement}
 use Rattle.host.proofs.words.within_limits.Tie as tie
 
 abbrev Inv-loop : tie.InvT-loop
-Inv-loop words fine₀ i₀ fine i = (i ≤ 35) × (within fine (drop i words) (drop i wordLimits) ≡ within true words wordLimits)
+Inv-loop words limits fine₀ i₀ fine i = (i ≤ 35) × (within fine (drop i words) (drop i wordLimits) ≡ within true words wordLimits)
 
 abbrev μ-loop : tie.MeasureT-loop
-μ-loop words fine₀ i₀ fine i = 35 - i
+μ-loop words limits fine₀ i₀ fine i = 35 - i
 
 loop-holds : tie.Need-loop-holds Inv-loop μ-loop
 loop-holds c = (omega arith, refl)
@@ -25,8 +25,11 @@ mul-fine c = search needs
 shared-slice-read-fine : tie.Need-shared-slice-read-fine Inv-loop μ-loop
 shared-slice-read-fine c = search needs
 
-limit-requires : tie.Need-limit-requires Inv-loop μ-loop
-limit-requires c κs = search needs
+mul-fine-2 : tie.Need-mul-fine-2 Inv-loop μ-loop
+mul-fine-2 c = search needs
+
+array-read-fine : tie.Need-array-read-fine Inv-loop μ-loop
+array-read-fine c = search needs
 
 add-i : tie.Need-add-i Inv-loop μ-loop
 add-i c = search needs
@@ -36,15 +39,15 @@ loop-less c = search needs
 
 loop-again : tie.Need-loop-again Inv-loop μ-loop
 loop-again c =
-    let at-head = c .before .before .before .loop in (
+    let at-head = c .before .before .loop in (
       omega arith,
-      sym (within-turn (at-head .fine) (c .before .before .before .before .before .args .words .now) wordLimits (at-head .i) _ (c .limit .ensures) (omega arith) (omega arith)) ∙ at-head .inv .1,
+      sym (within-turn (at-head .fine) (c .before .before .before .args .words .now) wordLimits (at-head .i) (omega arith) (omega arith)) ∙ at-head .inv .1,
     )
 
 returns : tie.Need-returns Inv-loop μ-loop
 returns c =
     let at-head = c .before .loop in
-    sym (within-done (at-head .fine) (c .before .before .before .args .words .now) wordLimits (at-head .i) (omega arith)) ∙ at-head .inv .1
+    sym (within-done (at-head .fine) (c .before .before .args .words .now) wordLimits (at-head .i) (omega arith)) ∙ at-head .inv .1
 
 pub within-limits-spec : {M : Type 1} → statement M
 within-limits-spec =
@@ -55,7 +58,8 @@ within-limits-spec =
     loop-holds
     mul-fine
     shared-slice-read-fine
-    limit-requires
+    mul-fine-2
+    array-read-fine
     add-i
     loop-less
     loop-again

@@ -1,51 +1,38 @@
-use borrow.Author.Tests.{eq-eqb, ne-eqb, lt-ltb, le-ltb, le-leb, lt-leb}
+use borrow.Author.Tests.{ne-eqb, lt-ltb, le-ltb}
 use borrow.Author.Needs.{needs}
 use Rattle.engine.proofs.event.Event.of.Statement.{statement}
 use Rattle.engine.proofs.event.Event.of.Tie as tie
-use Rattle.engine.proofs.event.Event.of.Reads as reads
-use Rattle.engine.proofs.event.Event.of.Lts as lts
 
--- src/event.rt:21:32
 cast-t3 : tie.Need-cast-t3
 cast-t3 c = search needs
 
--- src/event.rt:21:13
 returns : tie.Need-returns
 returns c = simp (lt-ltb _ _ (c .if1 .taken))
 
--- src/event.rt:24:13
 returns-2 : tie.Need-returns-2
 returns-2 c = rw (c .if2 .taken)
 
--- src/event.rt:27:13
 returns-3 : tie.Need-returns-3
 returns-3 c = rw (c .if3 .taken)
 
--- src/event.rt:30:13
 returns-4 : tie.Need-returns-4
 returns-4 c = rw (c .if4 .taken)
 
--- src/event.rt:33:13
 returns-5 : tie.Need-returns-5
 returns-5 c = rw (c .if5 .taken)
 
--- src/event.rt:36:13
 returns-6 : tie.Need-returns-6
 returns-6 c = rw (c .if6 .taken)
 
--- src/event.rt:39:13
 returns-7 : tie.Need-returns-7
 returns-7 c = simp (le-ltb _ _ (c .before .before .before .before .before .before .if1 .left), ne-eqb _ _ (c .before .before .before .before .before .if2 .left), ne-eqb _ _ (c .before .before .before .before .if3 .left), ne-eqb _ _ (c .before .before .before .if4 .left), ne-eqb _ _ (c .before .before .if5 .left), ne-eqb _ _ (c .before .if6 .left), lt-ltb _ _ (c .if7 .taken))
 
--- src/event.rt:42:34
 cast-t5 : tie.Need-cast-t5
 cast-t5 c = search needs
 
--- src/event.rt:42:13
 returns-8 : tie.Need-returns-8
 returns-8 c = simp (le-ltb _ _ (c .before .before .before .before .before .before .before .if1 .left), ne-eqb _ _ (c .before .before .before .before .before .before .if2 .left), ne-eqb _ _ (c .before .before .before .before .before .if3 .left), ne-eqb _ _ (c .before .before .before .before .if4 .left), ne-eqb _ _ (c .before .before .before .if5 .left), ne-eqb _ _ (c .before .before .if6 .left), le-ltb _ _ (c .before .if7 .left), lt-ltb _ _ (c .if8 .taken))
 
--- src/event.rt:17:5
 returns-9 : tie.Need-returns-9
 returns-9 c = simp (le-ltb _ _ (c .before .before .before .before .before .before .before .if1 .left), ne-eqb _ _ (c .before .before .before .before .before .before .if2 .left), ne-eqb _ _ (c .before .before .before .before .before .if3 .left), ne-eqb _ _ (c .before .before .before .before .if4 .left), ne-eqb _ _ (c .before .before .before .if5 .left), ne-eqb _ _ (c .before .before .if6 .left), le-ltb _ _ (c .before .if7 .left), le-ltb _ _ (c .if8 .left))
 

@@ -1,0 +1,55 @@
+// Events in order, for a run and for a single step. It alone calls `accept`, so that the chip's record is not copied at each event.
+ghost use mathlib.Core.Path.{_≡_};
+ghost use Rattle.registers.specs.State.{state};
+ghost use Rattle.engine.specs.Run.{outcome, runOf, lastAnswer};
+use crate::answer::Answer;
+use registers::Chip;
+
+// How many events were done, the refusal that stopped them or 0, the answer to the last event that was tried, and the chip after it.
+pub struct Performed {
+    pub done: usize,
+    pub refusal: u8,
+    pub answer: Answer,
+    pub chip: Chip,
+}
+
+// Events in order up to the first refused one. 1 and 2 are tested at entry, even with no events.
+pub fn perform(chip: Chip, memory: &mut [u8], writers: &mut [u64], events: &[u16]) -> Performed
+    ensures { λ r. ⌜ outcome (r .done) (r .refusal) (state (r .chip) (now (memory .exit)) (now (writers .exit))) ≡ runOf (now (events .entry)) (state chip (now (memory .entry)) (now (writers .entry))) ⌝ }
+    ensures { λ r. ⌜ r .answer ≡ lastAnswer (now (events .entry)) (state chip (now (memory .entry)) (now (writers .entry))) ⌝ }
+{
+    let entry = crate::refusal::at_entry(chip, memory.len(), writers.len());
+    if entry != 0 {
+        return Performed {
+            done: 0,
+            refusal: entry,
+            answer: Answer::Refused(entry),
+            chip,
+        };
+    }
+    let mut now_chip = chip;
+    let mut answer = Answer::Nothing;
+    let mut done = 0;
+    while done < events.len() {
+        let event = events[done];
+        let refused = crate::refusal::of_event(event, now_chip, memory.len(), writers.len());
+        if refused != 0 {
+            return Performed {
+                done,
+                refusal: refused,
+                answer: Answer::Refused(refused),
+                chip: now_chip,
+            };
+        }
+        let stepped = crate::apply::accept(event, now_chip, memory, writers);
+        now_chip = stepped.chip;
+        answer = stepped.answer;
+        done += 1;
+    }
+    Performed {
+        done,
+        refusal: 0,
+        answer,
+        chip: now_chip,
+    }
+}
