@@ -1,0 +1,20 @@
+/* One display byte that is sent when 2^32 - 1 events have already been counted. */
+#include <inttypes.h>
+#include <stdio.h>
+#include "pcf8820.h"
+
+enum { RECORD = 35, COUNT = 34, CELLS = 1717 };
+
+int main(void)
+{
+    static uint64_t record[RECORD], writers[CELLS];
+    static uint8_t memory[CELLS];
+    static const uint16_t events[] = { 256, 0x78, 0x40, 167, 257 };
+    uint64_t done;
+
+    pcf8820_reset(record, RECORD, 0);
+    record[COUNT] = 4294967295u;
+    pcf8820_run(record, RECORD, memory, CELLS, writers, CELLS, events, 5, &done);
+    printf("byte %d, written by event %" PRIu64 "\n", memory[0], writers[0]);
+    return 0;
+}

@@ -1,0 +1,155 @@
+"""Holds the samples, and what the documents say of them, against the programs.
+
+    main.py PROGRAMS ARCHIVE           compares
+    main.py --make PROGRAMS ARCHIVE    writes the expected outputs and the documents' outputs
+
+PROGRAMS is a directory with replay, draw and view, ARCHIVE the library for C. `--make` is for the
+model's. What is compared:
+
+- each capture of samples/: its listing and its glass, with samples/expected/NAME.listing and .glass;
+- each list of samples/: the capture that draws it, with samples/expected/NAME.drawn;
+- in the documents, each code block whose first line begins with `$ `: what its commands print;
+- docs/glass.png: its pixels;
+- in the documents, each name in back quotes: it has to stand in the project.
+"""
+import glob
+import os
+import struct
+import subprocess
+import sys
+import zlib
+
+import names
+
+DOCUMENTS = ["README.md", "docs/LESSONS.md"]
+PICTURE = "target/bin/draw 0 samples/glass.list | target/bin/view | samples/picture png"
+
+
+class Sides:
+    """The programs to run, and whether their outputs are to be written or compared."""
+
+    def __init__(self, making, programs, archive):
+        self.making, self.programs, self.archive = making, programs, archive
+        self.compared, self.wrong = 0, []
+
+    def printed(self, command):
+        """What a command of the documents prints with these programs, standard error with it."""
+        command = command.replace("target/bin", self.programs)
+        command = command.replace("target/staticlib/libhost.a", self.archive)
+        done = subprocess.run(["sh", "-c", command], stdout=subprocess.PIPE, stderr=subprocess.STDOUT,
+                              stdin=subprocess.DEVNULL, timeout=300,
+                              env={**os.environ, "PROGRAMS": self.programs})
+        return done.stdout
+
+    def compare(self, what, ours, theirs):
+        self.compared += 1
+        if ours != theirs:
+            self.wrong.append(f"{what}: printed\n{ours!r}\nand not\n{theirs!r}"[:1000])
+
+    def expect(self, command, path):
+        ours = self.printed(command)
+        if self.making:
+            write(path, ours)
+        self.compare(path, ours, read(path))
+
+
+def read(path):
+    with open(path, "rb") as file:
+        return file.read()
+
+
+def write(path, data):
+    with open(path, "wb") as file:
+        file.write(data)
+
+
+def expected(path, ending):
+    name = os.path.splitext(os.path.basename(path))[0]
+    return f"samples/expected/{name}.{ending}"
+
+
+def compare_samples(sides):
+    for capture in sorted(glob.glob("samples/*.capture")):
+        sides.expect(f"target/bin/replay {capture}", expected(capture, "listing"))
+        sides.expect(f"target/bin/view {capture} | samples/picture text", expected(capture, "glass"))
+    for drawing in sorted(glob.glob("samples/*.list")):
+        sides.expect(f"target/bin/draw 0 {drawing}", expected(drawing, "drawn"))
+
+
+def blocks(lines):
+    """The text in pieces: (False, lines) for prose, (True, lines) for a block of commands."""
+    piece, fenced = [], False
+    for line in lines:
+        if line.startswith("```"):
+            if fenced:
+                yield piece[:1] and piece[0].startswith("$ "), piece
+                piece, fenced = [line], False
+            else:
+                piece, fenced = piece + [line], True
+                yield False, piece
+                piece = []
+        else:
+            piece.append(line)
+    yield False, piece
+
+
+def printed_block(sides, lines):
+    """The block with what its commands print."""
+    out = []
+    for line in lines:
+        if line.startswith("$ "):
+            out.append(line)
+            out += sides.printed(line[2:]).decode().splitlines()
+    return out
+
+
+def compare_document(sides, path):
+    text = read(path).decode()
+    out = []
+    for is_run, lines in blocks(text.splitlines()):
+        ours = printed_block(sides, lines) if is_run else lines
+        if is_run and not sides.making:
+            sides.compare(f"{path}, {lines[0]}", "\n".join(ours), "\n".join(lines))
+        out += ours
+    if sides.making:
+        write(path, ("\n".join(out) + "\n").encode())
+
+
+def pixels(png):
+    """The size and the rows of a PNG that samples/picture made; zlib is free to pack them in many ways."""
+    at, data, head = 8, b"", b""
+    while at < len(png):
+        size, name = struct.unpack(">I4s", png[at:at + 8])
+        body = png[at + 8:at + 8 + size]
+        head += body if name == b"IHDR" else b""
+        data += body if name == b"IDAT" else b""
+        at += 12 + size
+    return head + zlib.decompress(data)
+
+
+def compare_picture(sides):
+    png = sides.printed(PICTURE)
+    if sides.making:
+        write("docs/glass.png", png)
+    sides.compare("docs/glass.png", pixels(png), pixels(read("docs/glass.png")))
+
+
+def main(words):
+    making = words[:1] == ["--make"]
+    words = words[making:]
+    if len(words) != 2:
+        sys.exit("usage: main.py [--make] PROGRAMS ARCHIVE")
+    sides = Sides(making, *words)
+    os.makedirs("samples/expected", exist_ok=True)
+    compare_samples(sides)
+    for path in DOCUMENTS:
+        compare_document(sides, path)
+    compare_picture(sides)
+    wrong = sides.wrong + names.missing()
+    if wrong:
+        print("samples: DIFFERENT: " + "\n".join(wrong), file=sys.stderr)
+        sys.exit(1)
+    print(f"samples: {sides.compared} outputs as expected; every edit is named in docs/STATEMENTS.md")
+
+
+main(sys.argv[1:])
