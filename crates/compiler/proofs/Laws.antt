@@ -12,13 +12,19 @@ use lib.Seq.{sets}
 use Rattle.registers.specs.declared.Chip.{Chip}
 use Rattle.registers.specs.Record.{allowed, blank}
 use Rattle.lists.specs.Lists.{Reading, faulty, lines, readingFrom, readingOf, newlines}
+use Rattle.lists.proofs.Readings.{reading-refused}
 use Rattle.compiler.specs.declared.answer.Compiled.{Compiled}
 use Rattle.compiler.specs.declared.answer.Compiled.the-variants.{Done, Refused, BadLine, Short}
-use Rattle.compiler.specs.Compile.{Result, result, intoOutput, fromReading, compileOf}
+use Rattle.compiler.specs.Compile.{Result, result, intoOutput, fromReading, compileOf, numbersOf}
 use Rattle.compiler.specs.Demand3.{Promise}
 use Rattle.compiler.specs.Stream.{stream, clocksOf}
 use Rattle.compiler.specs.When.{When, Readable, Streams}
 use Rattle.compiler.proofs.Ways.{compile-draws}
+
+-- a bad line's number is 6, 7 or 8
+fault-number : (text : List ℕ) (k i : ℕ) → readingOf text ≡ faulty k i → 6 ≤ k
+unfolding readingOf
+fault-number text k i e = reading-refused 1 text k i e .least
 
 module _ (c : Chip) (text out : List ℕ) where
   -- demand 3: what was written draws the list on every chip that has that record
@@ -83,6 +89,17 @@ module _ (c : Chip) (text out : List ℕ) where
   -- the length is that of the stream, the clocks are nine for each of its bytes, and the output begins with it and is else as it was
   pub accepted : (es : List ℕ) → Readable c text → Streams c text es → length es ≤ length out → compileOf c text out ≡ result (Done (length es) (clocksOf es)) (sets out 0 es)
   accepted es ok streams room = from-stream es ok streams ∙ rw (le-leb (length es) (length out) room)
+
+  -- in document 01's numbers: 2 comes exactly where the record is not allowed
+  pub two-exactly : (numbersOf (compileOf c text out .answer) .number ≡ 2) ↔ (allowed c ≡ false)
+  two-exactly = (λ e. there (compileOf c text out .answer) (told (compileOf c text out) verdict) e, λ h. ap (λ (r : Compiled). numbersOf r .number) (so (Refused 2) (inl (refl, h))))
+    where
+      there : (r : Compiled) → When c text out r → numbersOf r .number ≡ 2 → allowed c ≡ false
+      there (Refused k) (inl w) e = w .1
+      there (Refused k) (inr w) e = absurd (omega (arith, w .0, e))
+      there (BadLine k i) w e = absurd (omega (arith, fault-number text k i (w .1), e))
+      there (Short n) w e = absurd (omega (arith, e))
+      there (Done n k) w e = absurd (omega (arith, e))
 
   -- a refusal changes nothing
   pub refusal-keeps : (r : Compiled) → compileOf c text out .answer ≡ r → ((n k : ℕ) → r ≡ Done n k → ⊥) → compileOf c text out .out ≡ out

@@ -2,17 +2,21 @@
 use mathlib.Core.Path.{_≡_, refl, sym, ap, _∙_}
 use mathlib.Core.Bool.{Bool, true, false, not, _||_}
 use mathlib.Core.List.{List}
+use mathlib.Core.Logic.{_↔_}
 use Prim.Native.Nat.{ℕ, suc, _-_, _^_}
 use native.Mathlib.Nat.{suc-ne-zero}
 use lib.Dec.{eqb}
 use lib.ListN.{length, getD}
 use Rattle.registers.specs.State.{state, places}
+use Rattle.registers.proofs.Below.{true-false}
+use Rattle.compiler.proofs.Laws.{two-exactly}
 use Rattle.engine.specs.Event.{eventOf, isListed}
 use Rattle.engine.specs.Step as inside
 use Rattle.engine.specs.Step.{refuse, _then_, refusalOf, accepted, stepOf}
 use Rattle.engine.specs.Run.{runFrom, runOf}
 use Rattle.host.specs.Words.{COUNT, standsFor, chipOf}
 use Rattle.host.specs.Calls.{noRecord, stepped, stepCall, stepRefusal, afterStep, entryRefusal, ran, runCall, afterRun}
+use Rattle.host.specs.Compiling.{Compiled, compiled, compileCall}
 use Rattle.host.proofs.Boundary.{words-chip-words, stands-allowed}
 
 module _ (ws m w : List ℕ) where
@@ -74,3 +78,20 @@ module _ (ws m w : List ℕ) where
         go : (t : Bool) → standsFor ws ≡ t → runCall events ws m w ≡ afterRun (runFrom 0 events (state (chipOf ws) m w))
         go true h = rw (h, entry-of-chip h ∙ r)
         go false h = absurd (never-none (sym (entry-of-none h) ∙ r))
+
+-- ---- compiling
+
+module _ (ws text out : List ℕ) where
+  -- words that stand for no record are refused by 2, and no others are
+  pub compile-refused : standsFor ws ≡ false → compileCall ws text out ≡ compiled 2 0 0 0 out
+  unfolding compileCall
+  compile-refused h = rw h
+
+  pub compile-2-exactly : (compileCall ws text out .number ≡ 2) ↔ (standsFor ws ≡ false)
+  unfolding compileCall
+  compile-2-exactly = (there (standsFor ws) refl, λ h. ap (λ (r : Compiled). r .number) (compile-refused h))
+    where
+      there : (t : Bool) → standsFor ws ≡ t → compileCall ws text out .number ≡ 2 → standsFor ws ≡ false
+      there true h e =
+          absurd (true-false (sym (stands-allowed ws h) ∙ two-exactly (chipOf ws) text out .0 (sym (rw h) ∙ e)))
+      there false h e = h
