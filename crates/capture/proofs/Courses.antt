@@ -11,7 +11,7 @@ use Rattle.text.specs.declared.Number as numbers
 use Rattle.text.specs.declared.Number.the-variants.{Value, Malformed}
 use Rattle.text.specs.Decimal.{numberOf, decimal}
 use Rattle.text.specs.Text.{split, join}
-use Rattle.text.proofs.Joining.{Free, join-split}
+use Rattle.text.proofs.Joining.{split-append, Free, join-split}
 use Rattle.text.proofs.Printing.{Printed, printed}
 use Rattle.text.proofs.Splitting.{split-some}
 use Rattle.engine.specs.Run.{unlessStopped}
@@ -19,7 +19,7 @@ use Rattle.chip.specs.Promised.{outcome, runFrom, refusalOf, accepted}
 use Rattle.capture.specs.Reading.{newline, alsoEvent, saidBy, pinsOf, firstLine, eventLines}
 use Rattle.capture.specs.Replay.{Replay, refusedAt, replayed, started, outcomeOf, playFrom, replayOf}
 use Rattle.capture.specs.Where.{Small, Stops, unended, no-number, refused-event, Replayed, NoFirstLine, StoppedAfter}
-use Rattle.capture.proofs.Pieces.{split-free, split-line}
+use Rattle.capture.proofs.Pieces.{split-free}
 use Rattle.capture.proofs.Written.{first-free, first-read, first-written, replay-pins}
 
 -- ---- event lines, n events being done
@@ -120,7 +120,7 @@ no-first-line :
     (text : List ℕ) (p : List ℕ) (ps : List (List ℕ)) → split newline text ≡ p ∷ ps
     → ((pins : ℕ) → pins ≤ 3 → p ≡ firstLine pins → (0 < length ps) → ⊥) → NoFirstLine text
 no-first-line text p ps e never pins body two t =
-    let parted : p ∷ ps ≡ firstLine pins ∷ split newline body = sym e ∙ rw t (split-line newline (firstLine pins) body (first-free pins)) in
+    let parted : p ∷ ps ≡ firstLine pins ∷ split newline body = sym e ∙ rw t (split-append newline (firstLine pins) body (first-free pins)) in
     let same : p ≡ firstLine pins = cc parted in
     let behind : ps ≡ split newline body = cc parted in
     never pins two same (rw behind (split-some newline body))

@@ -14,10 +14,10 @@ use Rattle.text.specs.Text.{countOf, split, sameBytes}
 use Rattle.text.proofs.Finding.{same-equal}
 use Rattle.text.proofs.Printing.{printed, read-back, decimal-free}
 use Rattle.text.proofs.Splitting.{split-some}
+use Rattle.text.proofs.Joining.{split-append}
 use Rattle.capture.specs.Reading.{newline, word, asPins, pinsOf, Said, said, alsoEvent, saidBy, firstLine, eventLines, captureThen}
 use Rattle.capture.specs.Replay.{started, playFrom, replayLines, withPins, replayOf}
 use Rattle.capture.specs.Where.{Small}
-use Rattle.capture.proofs.Pieces.{split-line}
 
 -- ---- the first line
 
@@ -51,7 +51,7 @@ first-written p k e = go (sameBytes (take 5 p) word) refl e
 
 -- a line before others
 pub said-line : (p s : List ℕ) → countOf newline p ≡ 0 → saidBy (split newline (p ++ newline ∷ s)) ≡ alsoEvent (numberOf p) (saidBy (split newline s))
-said-line p s f = rw (split-line newline p s f) (go (split newline s) (split-some newline s))
+said-line p s f = rw (split-append newline p s f) (go (split newline s) (split-some newline s))
   where
     go : (ps : List (List ℕ)) → 0 < length ps → saidBy (p ∷ ps) ≡ alsoEvent (numberOf p) (saidBy ps)
     go [] l = absurd (omega arith)
@@ -76,7 +76,7 @@ said-events (e ∷ es) rest h =
 pub replay-first :
     (p s m w : List ℕ) → countOf newline p ≡ 0 → replayOf (p ++ newline ∷ s) m w ≡ withPins (pinsOf p) (saidBy (split newline s)) m w
 unfolding replayOf
-replay-first p s m w f = ap (λ (l : List (List ℕ)). replayLines l m w) (split-line newline p s f) ∙ go (split newline s) (split-some newline s)
+replay-first p s m w f = ap (λ (l : List (List ℕ)). replayLines l m w) (split-append newline p s f) ∙ go (split newline s) (split-some newline s)
   where
     go : (ps : List (List ℕ)) → 0 < length ps → replayLines (p ∷ ps) m w ≡ withPins (pinsOf p) (saidBy ps) m w
     go [] l = absurd (omega arith)

@@ -170,7 +170,7 @@ stop-ends :
 unfolding Plays
 stop-ends p r m pins n s st = let stop = stop-plays r m pins n s (st .sees) in (stop .0, stop .1 .sees)
 
-singles-length : (bs es : List ℕ) → length (singles bs es) ≡ 2 * length bs + length es
+pub singles-length : (bs es : List ℕ) → length (singles bs es) ≡ 2 * length bs + length es
 singles-length [] es = omega arith
 singles-length (b ∷ bs) es = omega (arith, singles-length bs es)
 

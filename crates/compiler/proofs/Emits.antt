@@ -2,22 +2,17 @@
 use mathlib.Core.List.{List, [], _∷_, _++_}
 use mathlib.Core.Path.{_≡_, refl, sym, ap, _∙_, subst}
 use Prim.Native.Nat.{ℕ, zero, suc, _+_, _*_, _-_, _<_}
-use native.Mathlib.Nat.{add-zero, suc-add, add-suc, suc-mul, zero-mul}
+use native.Mathlib.Nat.{add-zero, suc-mul, zero-mul}
 use native.Mathlib.Omega.{arith}
 use borrow.Author.Tests.{eq-eqb, ne-eqb}
-use lib.ListN.{length, replicate, set, length-append, length-replicate}
+use lib.ListN.{length, replicate, length-append, length-replicate}
 use lib.Seq.{sets}
 use Rattle.registers.specs.declared.Registers.{Registers}
 use Rattle.registers.specs.Reversed.{ordered}
+use Rattle.text.proofs.Writing.{sets-append}
 use Rattle.chip.specs.Plays.{writeAddress}
 use Rattle.compiler.specs.Stream.{run, across, down, firstX, fill}
 use Rattle.compiler.specs.Writes.{Wrote, runEvents, runsEvents}
-
-pub sets-append : (l : List ℕ) (i : ℕ) (xs ys : List ℕ) → sets l i (xs ++ ys) ≡ sets (sets l i xs) (i + length xs) ys
-sets-append l i [] ys = ap (λ (k : ℕ). sets l k ys) (sym (add-zero i))
-sets-append l i (x ∷ xs) ys =
-    sets-append (set l i x) (suc i) xs ys
-    ∙ ap (λ (k : ℕ). sets (sets (set l i x) (suc i) xs) k ys) (suc-add i (length xs) ∙ sym (add-suc i (length xs)))
 
 less-one : (n : ℕ) → suc n - 1 ≡ n
 less-one n = omega arith

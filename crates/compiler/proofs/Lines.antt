@@ -6,6 +6,7 @@ use native.Mathlib.Omega.{arith}
 use lib.ListN.{getD, length, take, drop, drop-of-length-le, length-take}
 use Rattle.registers.specs.declared.Registers.{Registers}
 use Rattle.text.proofs.Finding.{drop-next}
+use Rattle.chip.proofs.Plays.{singles-length}
 use Rattle.chip.specs.Plays.{writeAddress, singles, message, Bytes}
 use Rattle.lists.specs.declared.Line.{Line}
 use Rattle.lists.specs.declared.Line.the-variants.{Fill, Set}
@@ -30,10 +31,6 @@ singles-none bs n h = ap (λ (l : List ℕ). singles l []) (drop-of-length-le bs
 singles-append : (bs es : List ℕ) → singles bs [] ++ es ≡ singles bs es
 singles-append [] es = refl
 singles-append (b ∷ bs) es = ap (λ (l : List ℕ). 128 ∷ b ∷ l) (singles-append bs es)
-
-singles-length : (bs es : List ℕ) → length (singles bs es) ≡ 2 * length bs + length es
-singles-length [] es = omega arith
-singles-length (b ∷ bs) es = omega (arith, singles-length bs es)
 
 singles-bytes : (bs es : List ℕ) → Bytes bs → byteEvents (singles bs es) ≡ 2 * length bs + byteEvents es
 singles-bytes [] es h = omega arith

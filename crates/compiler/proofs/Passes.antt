@@ -16,6 +16,7 @@ use Rattle.lists.specs.declared.Parsed.the-variants.{Good, Bad}
 use Rattle.lists.specs.Lists.{Reading, faulty, lines, alsoLine, readingFrom, readingOf, newlines, lineAt}
 use Rattle.lists.specs.Spelling.{Sound, AllSound}
 use Rattle.lists.proofs.Positions.{reading-bad, reading-good, reading-next, reading-end, reading-whole, line-sound, newlines-left}
+use Rattle.lists.proofs.Readings.{not-lines, same-lines}
 use Rattle.compiler.specs.declared.measure.Measured.the-variants.{Fault, Whole}
 use Rattle.compiler.specs.Compile.{measureFrom, measureOf, linesOf}
 use Rattle.compiler.specs.Plain.{setTo, registersAfter}
@@ -166,12 +167,6 @@ module _ {text : List ℕ} {pins : ℕ} {q₀ : Registers} {at number : ℕ} {q 
           }
 
 -- ---- writing
-
-not-lines : (k i : ℕ) (ls : List Line) → faulty k i ≡ lines ls → ⊥
-not-lines k i ls e = let z : _≡_ {A = ℕ} 0 1 = cc in omega arith
-
-same-lines : (ks ls : List Line) → lines ks ≡ lines ls → ks ≡ ls
-same-lines ks ls e = cc
 
 -- the lines after the first
 record Behind (y : Line) (r : Reading) (ls : List Line) : Type 0 where

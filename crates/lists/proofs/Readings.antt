@@ -15,10 +15,10 @@ use Rattle.lists.specs.Spelling.{AllSound}
 use Rattle.lists.proofs.Laws.{sound, numbers}
 
 -- readings are told apart
-not-lines : (k n : ℕ) (ls : List Line) → faulty k n ≡ lines ls → ⊥
+pub not-lines : (k n : ℕ) (ls : List Line) → faulty k n ≡ lines ls → ⊥
 not-lines k n ls e = let z : _≡_ {A = ℕ} 0 1 = cc in omega arith
 
-same-lines : (ks ls : List Line) → lines ks ≡ lines ls → ks ≡ ls
+pub same-lines : (ks ls : List Line) → lines ks ≡ lines ls → ks ≡ ls
 same-lines ks ls e = cc
 
 same-number : (j m k n : ℕ) → faulty j m ≡ faulty k n → j ≡ k

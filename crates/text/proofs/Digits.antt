@@ -11,7 +11,8 @@ use lib.ListN.{length, length-append}
 use Rattle.text.specs.Text.{countOf}
 use Rattle.text.specs.Decimal.{isDigit, isLeading, worth, digit, decimal}
 use Rattle.text.specs.Printed.{digitsUpTo, decimalOf, allDigits, worthAfter, wellLed, Spells}
-use Rattle.text.proofs.Numbers.{and-both, digit-bounds, leading-bounds, bounds-digit, bounds-leading}
+use Rattle.text.proofs.Numbers.{and-both, digit-bounds, leading-bounds, bounds-leading}
+use Rattle.text.proofs.Printing.{is-digit}
 
 -- ---- one digit, or one more than n / 10 has
 
@@ -65,9 +66,6 @@ all-append (x ∷ xs) ys hx hy =
 worth-append : (m : ℕ) (xs ys : List ℕ) → worthAfter m (xs ++ ys) ≡ worthAfter (worthAfter m xs) ys
 worth-append m [] ys = refl
 worth-append m (x ∷ xs) ys = worth-append (m * 10 + worth x) xs ys
-
-is-digit : (n : ℕ) → n < 10 → isDigit (digit n) ≡ true
-is-digit n h = bounds-digit (digit n) (omega arith) (omega arith)
 
 -- a digit that leads still leads with digits after it
 led-append : (d : ℕ) (ds : List ℕ) (e : ℕ) → isLeading d ≡ true → wellLed ((d ∷ ds) ++ (e ∷ [])) ≡ true

@@ -41,7 +41,7 @@ split-one b (x ∷ p) f = go (eqb x b) f (split-one b p)
     go true z h = absurd (omega arith)
     go false z h = rw (h z)
 
-split-append : (b : ℕ) (p s : List ℕ) → countOf b p ≡ 0 → split b (p ++ b ∷ s) ≡ p ∷ split b s
+pub split-append : (b : ℕ) (p s : List ℕ) → countOf b p ≡ 0 → split b (p ++ b ∷ s) ≡ p ∷ split b s
 split-append b [] s f = rw (eq-eqb b b refl)
 split-append b (x ∷ p) s f = go (eqb x b) f (split-append b p s)
   where

@@ -27,7 +27,7 @@ decimal-three n l = rw (le-ltb n 10 (omega arith), le-ltb n 100 l)
 well : (t : Bool) (m n : ℕ) → t ≡ true → m ≡ n → cond t (Value m) Malformed ≡ Value n
 well t m n e en = rw (e, en)
 
-is-digit : (n : ℕ) → n < 10 → isDigit (digit n) ≡ true
+pub is-digit : (n : ℕ) → n < 10 → isDigit (digit n) ≡ true
 is-digit n h = bounds-digit (digit n) (omega arith) (omega arith)
 
 is-leading : (n : ℕ) → 0 < n → n < 10 → isLeading (digit n) ≡ true
