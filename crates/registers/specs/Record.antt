@@ -2,33 +2,43 @@
 use mathlib.Core.Bool.{Bool, true, false, _&&_}
 use mathlib.Core.List.{List, [], _∷_, map}
 use Prim.Native.Nat.{ℕ, _-_, _^_}
+use Prim.Native.String.{String}
 use lib.Dec.{leb}
 use lib.ListN.{getD, set}
+use Rattle.text.specs.Text.{bytes}
 use Rattle.registers.specs.declared.Registers.{Registers}
 use Rattle.registers.specs.declared.Chip.{Chip}
 use Rattle.registers.specs.declared.Phase.{Phase}
 use Rattle.registers.specs.declared.Phase.the-variants.{Idle}
 
--- a register of the bit table: how many bits it has, the largest value that it takes, and its value after a reset
+-- a register of the bit table: its name, how many bits it has, the largest value that it takes, and its value after a reset
 pub record Register : Type 0 where
+  pub name : List ℕ
   pub width : ℕ
   pub limit : ℕ
   pub reset : ℕ
 
 -- a register that takes every value of its width
-abbrev pub bits : ℕ → ℕ → Register
-bits w v = record { width = w; limit = 2 ^ w - 1; reset = v }
+abbrev pub bits : String → ℕ → ℕ → Register
+bits n w v = record { name = bytes n; width = w; limit = 2 ^ w - 1; reset = v }
 
 -- one whose range is smaller than its width: H up to 4, X up to 100, Y up to 16
-abbrev pub upTo : ℕ → ℕ → Register
-upTo w n = record { width = w; limit = n; reset = 0 }
+abbrev pub upTo : String → ℕ → ℕ → Register
+upTo n w l = record { name = bytes n; width = w; limit = l; reset = 0 }
 
--- h do pd v d e mx my ps x y bs bsh dp prs hve s tc sm vop gr gs0 gs1 gs2 gs3 dof dm ec oc
+-- the bit table, in document 01's order
 abbrev pub registers : List Register
 registers =
-    upTo 3 4 ∷ bits 1 0 ∷ bits 1 1 ∷ bits 1 0 ∷ bits 1 0 ∷ bits 1 0 ∷ bits 1 0 ∷ bits 1 0 ∷ bits 1 0 ∷ upTo 7 100 ∷ upTo 5 16
-    ∷ bits 3 0 ∷ bits 1 0 ∷ bits 3 0 ∷ bits 1 0 ∷ bits 1 0 ∷ bits 3 0 ∷ bits 3 0 ∷ bits 1 0 ∷ bits 7 0 ∷ bits 2 0
-    ∷ bits 6 0 ∷ bits 6 0 ∷ bits 6 0 ∷ bits 6 0 ∷ bits 1 1 ∷ bits 1 0 ∷ bits 1 0 ∷ bits 1 0 ∷ []
+    upTo "h" 3 4
+    ∷ bits "do" 1 0 ∷ bits "pd" 1 1 ∷ bits "v" 1 0 ∷ bits "d" 1 0 ∷ bits "e" 1 0 ∷ bits "mx" 1 0 ∷ bits "my" 1 0 ∷ bits "ps" 1 0
+    ∷ upTo "x" 7 100 ∷ upTo "y" 5 16
+    ∷ bits "bs" 3 0 ∷ bits "bsh" 1 0 ∷ bits "dp" 3 0 ∷ bits "prs" 1 0 ∷ bits "hve" 1 0
+    ∷ bits "s" 3 0 ∷ bits "tc" 3 0 ∷ bits "sm" 1 0 ∷ bits "vop" 7 0
+    ∷ bits "gr" 2 0 ∷ bits "gs0" 6 0 ∷ bits "gs1" 6 0 ∷ bits "gs2" 6 0 ∷ bits "gs3" 6 0
+    ∷ bits "dof" 1 1 ∷ bits "dm" 1 0 ∷ bits "ec" 1 0 ∷ bits "oc" 1 0 ∷ []
+
+abbrev pub names : List (List ℕ)
+names = map (λ (r : Register). r .name) registers
 
 abbrev pub limits : List ℕ
 limits = map (λ (r : Register). r .limit) registers

@@ -4,6 +4,7 @@ ghost use Rattle.registers.specs.Record.{resetRegisters, resetChip, allo
 
 mod entry;
 pub mod limits;
+pub mod names;
 pub mod reversed;
 pub mod rows;
 pub mod table;
