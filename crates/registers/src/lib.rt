@@ -1,7 +1,8 @@
 // The chip's record as plain data: registers, bus phase and the rest, their limits and reset values, and the row methods.
 ghost use mathlib.Core.Path.{_≡_};
-ghost use Rattle.registers.specs.Record.{resetRegisters, resetChip, allowedRegisters, allowed, inPhase, withRegisters};
+ghost use Rattle.registers.specs.Record.{resetChip, allowedRegisters, allowed, inPhase, withRegisters};
 
+mod bytes;
 mod entry;
 pub mod limits;
 pub mod names;
@@ -65,43 +66,6 @@ pub struct Chip {
 }
 
 impl Registers {
-    // The reset values of the bit table.
-    pub fn reset() -> Self
-        ensures { λ r. ⌜ r ≡ resetRegisters ⌝ }
-    {
-        Self {
-            h: 0,
-            data_order: 0,
-            pd: 1,
-            v: 0,
-            d: 0,
-            e: 0,
-            mx: 0,
-            my: 0,
-            ps: 0,
-            x: 0,
-            y: 0,
-            bs: 0,
-            bsh: 0,
-            dp: 0,
-            prs: 0,
-            hve: 0,
-            s: 0,
-            tc: 0,
-            sm: 0,
-            vop: 0,
-            gr: 0,
-            gs0: 0,
-            gs1: 0,
-            gs2: 0,
-            gs3: 0,
-            dof: 1,
-            dm: 0,
-            ec: 0,
-            oc: 0,
-        }
-    }
-
     // Every field within its limit. `&` and not `&&`: one value, no branches.
     pub fn allowed(self) -> bool
         ensures { λ r. ⌜ r ≡ allowedRegisters self ⌝ }

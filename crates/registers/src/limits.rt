@@ -2,8 +2,9 @@
 // place in document 01's order. Past the last register each answers 0.
 ghost use mathlib.Core.Path.{_≡_};
 ghost use lib.ListN.{getD};
-ghost use Rattle.registers.specs.Record.{limits, resets};
+ghost use Rattle.registers.specs.Record.{limits, resets, resetRegisters};
 ghost use Rattle.registers.specs.Data.{widths};
+use crate::Registers;
 use crate::entry::entry;
 
 // How many registers there are.
@@ -121,4 +122,20 @@ pub fn reset(register: usize) -> u8
     ensures { λ r. ⌜ r ≡ getD resets register 0 ⌝ }
 {
     entry(&RESETS, register)
+}
+
+// All limits.
+pub fn limits() -> [u8; 29]
+    ensures { λ r. ⌜ r ≡ limits ⌝ }
+{
+    LIMITS
+}
+
+impl Registers {
+    // The reset values of the bit table.
+    pub fn reset() -> Self
+        ensures { λ r. ⌜ r ≡ resetRegisters ⌝ }
+    {
+        Self::of_bytes(RESETS)
+    }
 }
