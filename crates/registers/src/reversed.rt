@@ -1,6 +1,6 @@
 // The byte in the other bit order, as DO = 1 stores it: DB7 changes places with DB0, DB6 with DB1 and so on.
 ghost use mathlib.Core.Path.{_≡_};
-ghost use Rattle.registers.specs.Reversed.{reversedOf};
+ghost use Rattle.registers.specs.Reversed.{reversedOf, ordered};
 
 const REVERSED: [u8; 256] = [
     0,
@@ -265,4 +265,15 @@ pub fn reversed(byte: u8) -> u8
     ensures { λ r. ⌜ r ≡ reversedOf byte ⌝ }
 {
     REVERSED[byte as usize]
+}
+
+// The byte in the order that DO asks for: DO = 1 swaps it.
+pub fn ordered(data_order: u8, byte: u8) -> u8
+    ensures { λ r. ⌜ r ≡ ordered «data_order» byte ⌝ }
+{
+    if data_order == 1 {
+        reversed(byte)
+    } else {
+        byte
+    }
 }
