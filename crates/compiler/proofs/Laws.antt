@@ -19,7 +19,7 @@ use Rattle.compiler.specs.Compile.{Result, result, intoOutput, fromReadi
 use Rattle.compiler.specs.Demand3.{Promise}
 use Rattle.compiler.specs.Stream.{stream, clocksOf}
 use Rattle.compiler.specs.When.{When, Readable, Streams}
-use Rattle.compiler.proofs.Ways.{compile-draws}
+use Rattle.compiler.proofs.Promise.{compile-draws}
 
 -- a bad line's number is 6, 7 or 8
 fault-number : (text : List ℕ) (k i : ℕ) → readingOf text ≡ faulty k i → 6 ≤ k

@@ -1,4 +1,5 @@
 pub mod Clocks
+pub mod CodeWays
 pub mod Demand3
 pub mod Emits
 pub mod Fill
@@ -6,9 +7,8 @@ pub mod Fills
 pub mod Fits
 pub mod Laws
 pub mod Lines
-pub mod Passes
+pub mod Promise
 pub mod Set
 pub mod Sets
 pub mod Settings
 pub mod Tracked
-pub mod Ways

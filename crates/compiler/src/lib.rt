@@ -1,8 +1,11 @@
 // Drawing lists to bus events. What a list means, which events say it, and that the two agree on every chip stands in specs/.
 ghost use mathlib.Core.Path.{_≡_};
+ghost use Prim.Native.Nat.{_≤_};
 ghost use Rattle.registers.specs.Record.{blank};
-ghost use Rattle.compiler.specs.Compile.{result, compileOf};
+ghost use Rattle.lists.specs.Lists.{newlines, readingOf};
+ghost use Rattle.compiler.specs.Compile.{result, fromReading, compileOf};
 ghost use Rattle.compiler.specs.Demand3.{Promise};
+ghost use Rattle.compiler.specs.Writes.{Tracked};
 use answer::Compiled;
 use measure::Measured;
 use registers::Chip;
@@ -28,6 +31,26 @@ fn blanked(mut registers: Registers) -> Registers
     registers
 }
 
+// The same for a record that is allowed and a text of no more than 4,096 lines, from the pins and the blanked registers.
+fn compile_lines(registers: Registers, pins: u8, text: &[u8], out: &mut [u16]) -> Compiled
+    requires { ⌜ (newlines (now text) ≤ 4096) × Tracked registers × (pins ≤ 3) ⌝ }
+    ensures { λ r. ⌜ result r (now (out .exit)) ≡ fromReading pins registers (readingOf (now (text .entry))) (now (out .entry)) ⌝ }
+{
+    match measure::measure(text, registers, pins) {
+        Measured::Fault { number, line } => Compiled::BadLine { number, line },
+        Measured::Whole { length, bytes } => {
+            if out.len() < length {
+                return Compiled::Short { needed: length };
+            }
+            write::write(out, text, registers, pins);
+            Compiled::Done {
+                length,
+                clocks: 9 * bytes,
+            }
+        }
+    }
+}
+
 // The bus events that draw a list on the chip with this record, written from the output's first word on.
 pub fn compile(chip: Chip, text: &[u8], out: &mut [u16]) -> Compiled
     ensures { λ r. ⌜ result r (now (out .exit)) ≡ compileOf chip (now (text .entry)) (now (out .entry)) ⌝ }
@@ -39,18 +62,5 @@ pub fn compile(chip: Chip, text: &[u8], out: &mut [u16]) -> Compiled
     if 4096 < text::search::count(text, NEWLINE) {
         return Compiled::Refused(9);
     }
-    let registers = blanked(chip.registers);
-    match measure::measure(text, registers, chip.pins) {
-        Measured::Fault { number, line } => Compiled::BadLine { number, line },
-        Measured::Whole { length, bytes } => {
-            if out.len() < length {
-                return Compiled::Short { needed: length };
-            }
-            write::write(out, text, registers, chip.pins);
-            Compiled::Done {
-                length,
-                clocks: 9 * bytes,
-            }
-        }
-    }
+    compile_lines(blanked(chip.registers), chip.pins, text, out)
 }

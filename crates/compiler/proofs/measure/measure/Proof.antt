@@ -2,7 +2,7 @@ use native.Mathlib.Omega.{arith}
 use Prim.Native.Nat.{_-_}
 use lib.ListN.{length}
 use Rattle.lists.proofs.Positions.{reading-next, line-sound}
-use Rattle.compiler.proofs.Passes.{Measuring, measuring-start, measuring-end, measuring-fault, measuring-room, measuring-byte-room, measuring-turn}
+use Rattle.compiler.proofs.CodeWays.{Measuring, measuring-start, measuring-end, measuring-fault, measuring-room, measuring-byte-room, measuring-turn}
 use borrow.Author.Needs.{needs}
 use Rattle.compiler.proofs.measure.measure.Statement.{statement}
 use Rattle.compiler.proofs.measure.measure.Tie as tie

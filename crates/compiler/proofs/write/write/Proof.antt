@@ -2,7 +2,7 @@ use native.Mathlib.Omega.{arith}
 use Prim.Native.Nat.{_-_}
 use lib.ListN.{length}
 use Rattle.lists.proofs.Positions.{reading-next}
-use Rattle.compiler.proofs.Passes.{Writing, writing-start, writing-end, writing-no-fault, writing-room, writing-turn}
+use Rattle.compiler.proofs.CodeWays.{Writing, writing-start, writing-end, writing-no-fault, writing-room, writing-turn}
 use borrow.Author.Needs.{needs}
 use Rattle.compiler.proofs.write.write.Statement.{statement}
 use Rattle.compiler.proofs.write.write.Tie as tie

@@ -1,14 +1,18 @@
--- The two passes over a list, turn by turn: what is known at a place of the text, and what the line there adds.
+-- The ways through `measure`, `write` and `compile`, over plain variables: the two passes turn by turn, then what is returned.
 use mathlib.Core.Bool.{Bool, true, false, cond}
 use mathlib.Core.List.{List, [], _∷_, _++_}
 use mathlib.Core.Path.{_≡_, refl, sym, ap, _∙_, subst}
 use Prim.Native.Nat.{ℕ, suc, _+_, _*_, _-_, _^_, _≤_, _<_}
 use native.Mathlib.Nat.{zero-add, add-zero, mul-le-mul}
 use native.Mathlib.Omega.{arith}
-use lib.Dec.{eqb, ltb}
+use borrow.Author.Tests.{lt-ltb, le-ltb, lt-leb, le-leb, leb-true}
+use lib.Dec.{eqb, leb, ltb}
 use lib.ListN.{length, drop, length-append}
 use lib.Seq.{sets}
+use Rattle.registers.specs.declared.Chip.{Chip}
 use Rattle.registers.specs.declared.Registers.{Registers}
+use Rattle.registers.specs.Record.{allowed, allowedRegisters, blank}
+use Rattle.registers.proofs.Within.{both-left, both-right}
 use Rattle.lists.specs.declared.Line.{Line}
 use Rattle.lists.specs.declared.Line.the-variants.{Fill, Set}
 use Rattle.lists.specs.declared.LineAt.{LineAt}
@@ -16,18 +20,23 @@ use Rattle.lists.specs.declared.Parsed.the-variants.{Good, Bad}
 use Rattle.lists.specs.Lists.{Reading, faulty, lines, alsoLine, readingFrom, readingOf, newlines, lineAt}
 use Rattle.lists.specs.Spelling.{Sound, AllSound}
 use Rattle.lists.proofs.Positions.{reading-bad, reading-good, reading-next, reading-end, reading-whole, line-sound, newlines-left}
-use Rattle.lists.proofs.Readings.{not-lines, same-lines}
+use Rattle.lists.proofs.Readings.{Accepted, not-lines, same-lines, reading-accepted}
+use Rattle.compiler.specs.declared.answer.Compiled.{Compiled}
+use Rattle.compiler.specs.declared.answer.Compiled.the-variants.{Done, Refused, BadLine, Short}
+use Rattle.compiler.specs.declared.measure.Measured.{Measured}
 use Rattle.compiler.specs.declared.measure.Measured.the-variants.{Fault, Whole}
-use Rattle.compiler.specs.Compile.{measureFrom, measureOf, linesOf}
+use Rattle.compiler.specs.Compile.{result, intoOutput, fromReading, compileOf, measureFrom, measureOf, linesOf}
+use Rattle.compiler.specs.Demand3.{Promise}
 use Rattle.compiler.specs.Plain.{setTo, registersAfter}
-use Rattle.compiler.specs.Stream.{fill, lineEvents, stream, byteEvents}
+use Rattle.compiler.specs.Stream.{fill, lineEvents, stream, byteEvents, clocksOf}
 use Rattle.compiler.specs.Writes.{Wrote, Tracked, fillCount}
 use Rattle.compiler.proofs.Clocks.{bytes-append, fill-length}
 use Rattle.compiler.proofs.Emits.{wrote-then, wrote-none}
 use Rattle.compiler.proofs.Fits.{line-fits}
 use Rattle.compiler.proofs.Lines.{set-room}
 use Rattle.compiler.proofs.Settings.{set-length, set-length-bound}
-use Rattle.compiler.proofs.Tracked.{after-tracked}
+use Rattle.compiler.proofs.Promise.{compile-draws}
+use Rattle.compiler.proofs.Tracked.{after-tracked, blank-tracked}
 
 -- ---- no line takes more events than a fill of the whole glass by columns
 
@@ -247,3 +256,105 @@ module _ {text : List ℕ} {pins : ℕ} {q₀ : Registers} {out₀ : List ℕ} {
             room = omega (arith, m .room, events-count, wrote .next, same);
             rest = λ k j w. m .rest k j (subst (λ (es : List ℕ). Wrote out here es k j) (sym events-are) (wrote-then wrote w));
           })
+
+-- ---- `compile`: the text that neither 2 nor 9 refuses
+
+record Known (pins : ℕ) (q : Registers) (r : Reading) (n b : ℕ) : Type 0 where
+  pub good : r ≡ lines (linesOf r)
+  pub count : n ≡ length (stream pins (linesOf r) q)
+  pub bytes : b ≡ byteEvents (stream pins (linesOf r) q)
+
+known : (pins : ℕ) (q : Registers) (r : Reading) (n b : ℕ) → Whole n b ≡ measureOf pins q r → Known pins q r n b
+known pins q (faulty k i) n b e = absurd (let z : _≡_ {A = ℕ} 0 1 = cc in omega arith)
+known pins q (lines ls) n b e = record { good = refl; count = cc; bytes = cc }
+
+fault-known : (pins : ℕ) (q : Registers) (r : Reading) (k i : ℕ) → Fault k i ≡ measureOf pins q r → r ≡ faulty k i
+fault-known pins q (faulty k′ i′) k i e = let a : k′ ≡ k = cc in let d : i′ ≡ i = cc in cc
+fault-known pins q (lines ls) k i e = absurd (let z : _≡_ {A = ℕ} 0 1 = cc in omega arith)
+
+accepted-list : (text : List ℕ) (ls : List Line) → readingOf text ≡ lines ls → Accepted text ls
+unfolding readingOf
+accepted-list text ls e = reading-accepted 1 text ls e
+
+-- x is what the first pass found
+
+module _ (pins : ℕ) (q : Registers) (text : List ℕ) (x : Measured) (measured : x ≡ measureOf pins q (readingOf text)) where
+  pub bad-line : (out : List ℕ) (k i : ℕ) → x ≡ Fault k i → result (BadLine k i) out ≡ fromReading pins q (readingOf text) out
+  bad-line out k i e = sym (ap (λ (r : Reading). fromReading pins q r out) (fault-known pins q (readingOf text) k i (sym e ∙ measured)))
+
+  module _ (n b : ℕ) (e : x ≡ Whole n b) where
+    whole : Known pins q (readingOf text) n b
+    whole = known pins q (readingOf text) n b (sym e ∙ measured)
+
+    -- nine times the byte events fit their number
+    pub clocks-room : newlines text ≤ 4096 → 9 * b < 2 ^ 64
+    clocks-room few =
+        let list = accepted-list text (linesOf (readingOf text)) (whole .good) in
+        let limit = stream-limit pins (linesOf (readingOf text)) q (list .within) in
+        omega (arith, few, whole .bytes, list .counted, bytes-limit (stream pins (linesOf (readingOf text)) q), limit)
+
+    module _ (out : List ℕ) where
+      into-output : intoOutput (stream pins (linesOf (readingOf text)) q) out ≡ fromReading pins q (readingOf text) out
+      into-output = sym (ap (λ (r : Reading). fromReading pins q r out) (whole .good))
+
+      pub too-short : length out < n → result (Short n) out ≡ fromReading pins q (readingOf text) out
+      too-short h =
+          let es = stream pins (linesOf (readingOf text)) q in
+          let short : length out < length es = omega (arith, whole .count) in
+          ap (λ (z : ℕ). result (Short z) out) (whole .count) ∙ sym (rw (lt-leb (length es) (length out) short)) ∙ into-output
+
+      module _ (room : n ≤ length out) where
+        pub writable :
+            (readingOf text ≡ lines (linesOf (readingOf text))) × (length (stream pins (linesOf (readingOf text)) q) ≤ length out)
+        writable = (whole .good, subst (λ (z : ℕ). z ≤ length out) (whole .count) room)
+
+        pub written :
+            (out′ : List ℕ) → out′ ≡ sets out 0 (stream pins (linesOf (readingOf text)) q)
+            → result (Done n (9 * b)) out′ ≡ fromReading pins q (readingOf text) out
+        written out′ h =
+            let es = stream pins (linesOf (readingOf text)) q in
+            ap (λ (z : ℕ). result (Done z (9 * b)) out′) (whole .count)
+            ∙ ap (λ (z : ℕ). result (Done (length es) (9 * z)) out′) (whole .bytes)
+            ∙ ap (λ (z : List ℕ). result (Done (length es) (clocksOf es)) z) h
+            ∙ sym (rw (le-leb (length es) (length out) (writable .1)))
+            ∙ into-output
+
+-- ---- `compile`: 2 and 9
+
+-- `compile_lines` may be called
+pub readable :
+    (c : Chip) (text : List ℕ) → allowed c ≡ true → {n : ℕ} → n ≡ newlines text → n ≤ 4096 → {q : Registers} → q ≡ blank (c .registers)
+    → (newlines text ≤ 4096) × Tracked q × (c .pins ≤ 3)
+unfolding allowed
+readable c text ok counted few blanked = (
+  subst (λ (z : ℕ). z ≤ 4096) counted few,
+  subst Tracked (sym blanked) (blank-tracked (c .registers) (both-left (allowedRegisters (c .registers)) (leb (c .pins) 3) ok)),
+  leb-true (c .pins) 3 (both-right (allowedRegisters (c .registers)) (leb (c .pins) 3) ok),
+)
+
+module _ (c : Chip) (text out : List ℕ) where
+  -- what is returned is what the definition says, and so draws the list
+  abbrev Compiles : Compiled → List ℕ → Type 0
+  Compiles r out′ = (result r out′ ≡ compileOf c text out) × Promise r c text out′
+
+  promised : {r : Compiled} {out′ : List ℕ} → result r out′ ≡ compileOf c text out → Compiles r out′
+  promised {r} {out′} e = (e, compile-draws c text out r out′ e)
+
+  pub not-allowed : allowed c ≡ false → Compiles (Refused 2) out
+  unfolding compileOf
+  not-allowed h = promised (sym (rw h))
+
+  module _ (ok : allowed c ≡ true) {n : ℕ} (counted : n ≡ newlines text) where
+    pub too-long : 4096 < n → Compiles (Refused 9) out
+    unfolding compileOf
+    too-long h = promised (sym (rw (ok, ← counted, lt-ltb 4096 n h)))
+
+    module _ (few : n ≤ 4096) {q : Registers} (blanked : q ≡ blank (c .registers)) where
+      pub read :
+          (r : Compiled) (out′ : List ℕ) → result r out′ ≡ fromReading (c .pins) q (readingOf text) out → Compiles r out′
+      unfolding compileOf
+      read r out′ e =
+          promised
+          (e
+          ∙ ap (λ (z : Registers). fromReading (c .pins) z (readingOf text) out) blanked
+          ∙ sym (rw (ok, ← counted, le-ltb 4096 n few)))
