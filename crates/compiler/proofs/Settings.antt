@@ -5,34 +5,36 @@ use mathlib.Core.Path.{_≡_, refl, sym, ap, _∙_, subst}
 use Prim.Native.Nat.{ℕ, _+_, _-_, _*_, _^_, _≤_, _<_}
 use native.Mathlib.Decide.{ℕ-discrete}
 use native.Mathlib.Omega.{arith}
-use borrow.Author.Tests.{lt-leb, le-leb, eq-eqb, ne-eqb}
+use borrow.Author.Tests.{leb-true, eq-eqb, ne-eqb}
 use lib.Dec.{T, eqb, leb, eqb→eq, leb→le}
 use lib.ListN.{getD, length, List·getD-eq-default, List·getD-map}
-use lib.Seq.{set-out}
 use Rattle.registers.specs.declared.Registers.{Registers}
 use Rattle.registers.specs.Data.{pages}
 use Rattle.registers.specs.Encode.{held, rowByte, rowFor, isGrey}
-use Rattle.registers.specs.Places.{GR, GS0}
-use Rattle.registers.specs.Record.{values, ofValues, put}
+use Rattle.registers.specs.Places.{GR, GS0, GS3}
+use Rattle.registers.specs.Record.{put}
 use Rattle.registers.specs.Table.{Row, rows, noRow}
 use Rattle.registers.specs.Table.Target.{selected}
-use Rattle.registers.proofs.Below.{allBelow, below-at, and-right, past}
+use Rattle.registers.proofs.Below.{allBelow, below-at, and-right}
+use Rattle.registers.proofs.Within.{both-left}
 use Rattle.compiler.specs.Plain.{setTo}
 use Rattle.compiler.specs.Stream.{pageOf, leave, enter, change, rowBytes, setCommands}
 use Rattle.compiler.specs.Writes.{setLength}
 
 -- ---- the registers after a set
 
-pub by-field : (f k n : ℕ) (r x : Registers) → f ≡ k → x ≡ setTo k n r → x ≡ setTo f n r
-by-field f k n r x at h = h ∙ ap (λ (j : ℕ). setTo j n r) (sym at)
+pub grey-from : (f : ℕ) → isGrey f ≡ true → GS0 ≤ f
+grey-from f g = leb-true GS0 f (both-left (leb GS0 f) (leb f GS3) g)
 
--- past the last register nothing is set
-pub by-no-field : (f n : ℕ) (r : Registers) → 29 ≤ f → r ≡ setTo f n r
-unfolding setTo
-by-no-field f n r h =
-    sym (ap (λ (b : Bool). cond (leb GS0 f && b) (put f n (put GR (f - GS0) r)) (put f n r)) (lt-leb f 24 (omega arith))
-    ∙ ap (λ (b : Bool). cond (b && false) (put f n (put GR (f - GS0) r)) (put f n r)) (le-leb GS0 f (omega arith))
-    ∙ ap ofValues (set-out (values r) f n h))
+module _ (f n : ℕ) (r : Registers) where
+  -- q is what selecting the register left
+  pub grey-set : (q x : Registers) → isGrey f ≡ true → q ≡ put GR (f - GS0) r → x ≡ put f n q → x ≡ setTo f n r
+  unfolding setTo
+  grey-set q x g select h = rw g (h ∙ ap (put f n) select)
+
+  pub other-set : (x : Registers) → isGrey f ≡ false → x ≡ put f n r → x ≡ setTo f n r
+  unfolding setTo
+  other-set x g h = rw g h
 
 -- ---- the row that sets a register
 

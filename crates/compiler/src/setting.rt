@@ -44,54 +44,13 @@ const ROW_FOR: [usize; 29] = [
 ];
 
 // That register alone; a grey register is also selected.
-pub fn with_field(mut registers: Registers, field: u8, value: u8) -> Registers
+pub fn with_field(registers: Registers, field: u8, value: u8) -> Registers
     ensures { λ r. ⌜ r ≡ setTo field value registers ⌝ }
 {
-    match field {
-        0 => registers.h = value,
-        1 => registers.data_order = value,
-        2 => registers.pd = value,
-        3 => registers.v = value,
-        4 => registers.d = value,
-        5 => registers.e = value,
-        6 => registers.mx = value,
-        7 => registers.my = value,
-        8 => registers.ps = value,
-        9 => registers.x = value,
-        10 => registers.y = value,
-        11 => registers.bs = value,
-        12 => registers.bsh = value,
-        13 => registers.dp = value,
-        14 => registers.prs = value,
-        15 => registers.hve = value,
-        16 => registers.s = value,
-        17 => registers.tc = value,
-        18 => registers.sm = value,
-        19 => registers.vop = value,
-        20 => registers.gr = value,
-        21 => {
-            registers.gr = 0;
-            registers.gs0 = value;
-        }
-        22 => {
-            registers.gr = 1;
-            registers.gs1 = value;
-        }
-        23 => {
-            registers.gr = 2;
-            registers.gs2 = value;
-        }
-        24 => {
-            registers.gr = 3;
-            registers.gs3 = value;
-        }
-        25 => registers.dof = value,
-        26 => registers.dm = value,
-        27 => registers.ec = value,
-        28 => registers.oc = value,
-        _ => {}
+    if is_grey(field) {
+        return registers.with(20, field - 21).with(field as usize, value);
     }
-    registers
+    registers.with(field as usize, value)
 }
 
 // The row that sets the register; 21, the number of rows, where none does.
