@@ -1,1 +1,4 @@
+pub mod Cited
+pub mod Table
+pub mod Start
 pub mod Marked

@@ -2,31 +2,12 @@
 use mathlib.Core.Bool.{Bool, true, false, cond, _&&_}
 use mathlib.Core.List.{List, [], _∷_, _++_}
 use Prim.Native.Nat.{ℕ, suc, _+_, _*_}
-use lib.Dec.{leb, eqb}
 use Prim.Native.String.{String}
-use lib.ListN.{getD, length, set, replicate}
-use Rattle.registers.specs.declared.Registers.{Registers}
-use Rattle.registers.specs.declared.Chip.{Chip}
-use Rattle.registers.specs.declared.Phase.the-variants.{EndlessBytes}
-use Rattle.registers.specs.Places.{DO, PD, «V», D, E, MX, MY, PS, X, Y, DP, GS0, GS1, GS2, GS3, DOF}
-use Rattle.registers.specs.Record.{values, put, resetRegisters, resetChip, inPhase, withRegisters}
-use Rattle.registers.specs.State.{State, state, places}
-use Rattle.engine.specs.Step.{stepOf}
-use Rattle.text.specs.Text.{bytes, sameBytes}
-use Rattle.compiler.specs.declared.answer.Numbers.{Numbers}
-use Rattle.compiler.specs.Compile.{Result, compileOf, numbersOf}
-use Rattle.glass.specs.Pixel.{Pixel, dark, undriven, uses, placeAt, pixelOf}
-use Rattle.glass.specs.Answer.{shownNumber}
-use Rattle.glass.specs.Glass.{ramRowOf, glassOf}
-
--- a register and its value
-pub record Setting : Type 0 where
-  pub register : ℕ
-  pub value : ℕ
-
-infix 80 _is_
-abbrev pub _is_ : ℕ → ℕ → Setting
-f is n = record { register = f; value = n }
+use lib.Dec.{leb, eqb}
+use Rattle.cases.specs.Cited.{getD, length, set, replicate, Registers, Chip, DO, PD, «V», D, E, MX, MY, PS, X, Y, DP, GS0, GS1, GS2, GS3, DOF}
+use Rattle.cases.specs.Cited.{values, inPhase, withRegisters, State, state, EndlessBytes, stepOf, bytes, sameBytes, Numbers, Result, compileOf, numbersOf}
+use Rattle.cases.specs.Cited.{Pixel, dark, undriven, uses, placeAt, pixelOf, shownNumber, ramRowOf, glassOf}
+use Rattle.cases.specs.Start.{Setting, _is_, withSettings, chipWith, zeros}
 
 pub data Case : Type 0 where
   -- after reset, with these registers set, a display byte leaves these
@@ -46,27 +27,21 @@ pub data Case : Type 0 where
 
 -- ---- what a case says
 
-abbrev pub withSettings : List Setting → Registers → Registers
-withSettings [] r = r
-withSettings (a ∷ rest) r = withSettings rest (put (a .register) (a .value) r)
-
 abbrev pub agrees : List Setting → Registers → Bool
 agrees [] r = true
 agrees (a ∷ rest) r = eqb (getD (values r) (a .register) 0) (a .value) && agrees rest r
 
 -- a chip after reset with these registers set, and bytes with this RS awaited; all memory 0
 abbrev pub prepared : List Setting → Bool → State
-prepared before rs =
-    state (withRegisters (inPhase (resetChip 0) (EndlessBytes rs)) (withSettings before resetRegisters)) (replicate places 0) (replicate places 0)
+prepared before rs = state (inPhase (chipWith before) (EndlessBytes rs)) zeros zeros
 
 -- the cell of the first worked stream
 abbrev pub oneCell : List ℕ
-oneCell = set (replicate places 0) (101 * 2 + 5) 0xA7
+oneCell = set zeros (101 * 2 + 5) 0xA7
 
 -- a chip after reset with these registers set, and with grey registers that can be told apart
 abbrev pub viewed : List Setting → Chip
-viewed before =
-    withRegisters (resetChip 0) (withSettings before (withSettings (GS0 is 40 ∷ GS1 is 41 ∷ GS2 is 42 ∷ GS3 is 43 ∷ []) resetRegisters))
+viewed before = chipWith (GS0 is 40 ∷ GS1 is 41 ∷ GS2 is 42 ∷ GS3 is 43 ∷ before)
 
 abbrev pub pixel : Chip → ℕ → Pixel
 pixel c row = pixelOf (c .registers) (ramRowOf c row) (getD oneCell (placeAt (ramRowOf c row) 5) 0)
@@ -96,7 +71,7 @@ noneDriven c (row ∷ rows) = eqb (shows c row) 257 && noneDriven c rows
 
 -- a list compiled into an output of so many words, all 999
 abbrev pub compiled : List Setting → String → ℕ → Result
-compiled before text n = compileOf (withRegisters (resetChip 0) (withSettings before resetRegisters)) (bytes text) (replicate n 999)
+compiled before text n = compileOf (chipWith before) (bytes text) (replicate n 999)
 
 -- the events, and after them the output as it was
 abbrev pub isStream : Result → List ℕ → ℕ → Bool
@@ -118,10 +93,6 @@ holds (greys before row gs) = useThese (viewed before) row gs
 holds (driven before rows others) = allDriven (viewed before) rows && noneDriven (viewed before) others
 holds (streamed before text es clocks) = isStream (compiled before text (length es + 1)) es clocks
 holds (judged text k) = isJudged (numbersOf (compiled [] text 100 .answer)) k
-
-unfoldable pub allHold : List Case → Bool
-allHold [] = true
-allHold (c ∷ cs) = holds c && allHold cs
 
 -- ---- the table
 
@@ -152,8 +123,9 @@ marked =
     ∷ greys (D is 1 ∷ E is 1 ∷ PD is 0 ∷ DOF is 0 ∷ PS is 0 ∷ MY is 0 ∷ []) 8 (0 ∷ 2 ∷ 1 ∷ 1 ∷ [])
     -- mode 10, MY = 1: glass row 58 uses register 3
     ∷ greys (D is 1 ∷ E is 0 ∷ PD is 0 ∷ DOF is 0 ∷ PS is 0 ∷ MY is 1 ∷ []) 58 (3 ∷ [])
-    -- X command E5h (101): X kept
+    -- X command E5h (101): X kept. E4h: X 100
     ∷ command (X is 5 ∷ []) 0xE5 (X is 5 ∷ [])
+    ∷ command (X is 5 ∷ []) 0xE4 (X is 100 ∷ [])
     -- bank 16, DO 0, FFh: stored 3Fh
     ∷ stored (DO is 0 ∷ Y is 16 ∷ []) 0xFF (101 * 16) 0x3F
     -- PS 1, DP 111, MY 1: glass rows 3..10 driven, 2 and 11 not

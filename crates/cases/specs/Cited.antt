@@ -1,0 +1,38 @@
+-- Every definition of another crate that the cases speak of.
+pub use lib.ListN.{getD, length, set, replicate, take}
+pub use Rattle.registers.specs.declared.Registers.{Registers}
+pub use Rattle.registers.specs.declared.Chip.{Chip}
+pub use Rattle.registers.specs.declared.Phase.the-variants.{EndlessBytes}
+pub use Rattle.registers.specs.Places.{H, DO, PD, «V», D, E, MX, MY, PS, X, Y, DP, SM, GR, GS0, GS1, GS2, GS3, DOF, EC, OC}
+pub use Rattle.registers.specs.Record.{values, ofValues, put, blank, resetRegisters, resetChip, inPhase, withRegisters}
+pub use Rattle.registers.specs.State.{State, state, places}
+pub use Rattle.engine.specs.declared.answer.Answer.{Answer}
+pub use Rattle.engine.specs.declared.answer.Answer.the-variants.{Refused, Nothing, Acknowledged, NotAcknowledged, Read}
+pub use Rattle.engine.specs.Step.{After, Fit}
+pub use Rattle.chip.specs.LastWriter.{before}
+pub use Rattle.chip.specs.Plays.{Good, played, message, dataMessage}
+pub use Rattle.text.specs.Text.{bytes, sameBytes}
+pub use Rattle.lists.specs.declared.Line.{Line}
+pub use Rattle.lists.specs.declared.Line.the-variants.{Fill}
+pub use Rattle.lists.specs.Lists.{Reading, faulty, lines}
+pub use Rattle.compiler.specs.declared.answer.Numbers.{Numbers}
+pub use Rattle.compiler.specs.Compile.{Result, numbersOf, linesOf}
+pub use Rattle.compiler.specs.Demand3.{Demand3, Draws}
+pub use Rattle.compiler.specs.Plain.{Picture, pictureOf, plain}
+pub use Rattle.glass.specs.Answer.{shownNumber, cellNumber}
+pub use Rattle.glass.specs.Glass.{ramRowOf}
+pub use Rattle.glass.specs.Pixel.{Pixel, dark, undriven, uses, placeAt, pixelOf}
+-- these are opened where a case is computed
+unfoldable pub use Rattle.registers.specs.Record.{allowed}
+unfoldable pub use Rattle.registers.specs.Table.{rowAt}
+unfoldable pub use Rattle.engine.specs.Command.{commandOf}
+unfoldable pub use Rattle.engine.specs.Display.{storedOf, placeOf, nextAddress}
+unfoldable pub use Rattle.engine.specs.Step.{refusalOf, applied, accepted, stepOf}
+unfoldable pub use Rattle.chip.specs.Plays.{Plays}
+unfoldable pub use Rattle.text.specs.Decimal.{numberOf}
+unfoldable pub use Rattle.lists.specs.Line.{lineOf}
+unfoldable pub use Rattle.lists.specs.Lists.{readingFrom, readingOf}
+unfoldable pub use Rattle.compiler.specs.Plain.{filled, setTo}
+unfoldable pub use Rattle.compiler.specs.Stream.{lineEvents, stream}
+unfoldable pub use Rattle.compiler.specs.Compile.{compileOf}
+unfoldable pub use Rattle.glass.specs.Glass.{placeRefusal, glassRefusal, cellOf, glassOf}
