@@ -1,1 +1,4 @@
 pub mod Marked
+pub mod Table
+pub mod Meets
+pub mod Streams
