@@ -2,3 +2,5 @@ pub mod Marked
 pub mod Table
 pub mod Meets
 pub mod Streams
+pub mod Observed
+pub mod Chips

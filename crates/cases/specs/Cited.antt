@@ -3,12 +3,14 @@ pub use lib.ListN.{getD, length, set, replicate, take}
 pub use Rattle.registers.specs.declared.Registers.{Registers}
 pub use Rattle.registers.specs.declared.Chip.{Chip}
 pub use Rattle.registers.specs.declared.Phase.the-variants.{EndlessBytes}
-pub use Rattle.registers.specs.Places.{H, DO, PD, «V», D, E, MX, MY, PS, X, Y, DP, SM, GR, GS0, GS1, GS2, GS3, DOF, EC, OC}
+pub use Rattle.registers.specs.Places.{H, DO, PD, «V», D, E, MX, MY, PS, X, Y, DP, SM, GR, GS0, GS1, GS2, GS3, DOF, DM, EC, OC}
 pub use Rattle.registers.specs.Record.{values, ofValues, put, blank, resetRegisters, resetChip, inPhase, withRegisters}
 pub use Rattle.registers.specs.State.{State, state, places}
 pub use Rattle.engine.specs.declared.answer.Answer.{Answer}
 pub use Rattle.engine.specs.declared.answer.Answer.the-variants.{Refused, Nothing, Acknowledged, NotAcknowledged, Read}
+pub use Rattle.engine.specs.Event.{numberOf as answerNumber}
 pub use Rattle.engine.specs.Step.{After, Fit}
+pub use Rattle.engine.specs.Run.{Outcome}
 pub use Rattle.chip.specs.LastWriter.{before}
 pub use Rattle.chip.specs.Plays.{Good, played, message, dataMessage}
 pub use Rattle.text.specs.Text.{bytes, sameBytes}
@@ -28,6 +30,7 @@ unfoldable pub use Rattle.registers.specs.Table.{rowAt}
 unfoldable pub use Rattle.engine.specs.Command.{commandOf}
 unfoldable pub use Rattle.engine.specs.Display.{storedOf, placeOf, nextAddress}
 unfoldable pub use Rattle.engine.specs.Step.{refusalOf, applied, accepted, stepOf}
+unfoldable pub use Rattle.engine.specs.Run.{runOf}
 unfoldable pub use Rattle.chip.specs.Plays.{Plays}
 unfoldable pub use Rattle.text.specs.Decimal.{numberOf}
 unfoldable pub use Rattle.lists.specs.Line.{lineOf}

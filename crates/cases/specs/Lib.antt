@@ -3,3 +3,6 @@ pub mod Table
 pub mod Start
 pub mod Marked
 pub mod Streams
+pub mod Observed
+pub mod Behaviour
+pub mod Chips

@@ -26,3 +26,21 @@ zeros = replicate places 0
 -- the same with all memory 0
 abbrev pub upon : List Setting → State
 upon before = state (chipWith before) zeros zeros
+
+-- ---- the same chip and memories with something else changed
+
+abbrev pub counting : ℕ → State → State
+counting n s =
+    let c = s .chip in
+    state (record { registers = c .registers; pins = c .pins; status = c .status; «last_rs» = c .«last_rs»; phase = c .phase; count = n })
+    (s .memory) (s .writers)
+
+abbrev pub withPins : ℕ → State → State
+withPins n s =
+    let c = s .chip in
+    state (record { registers = c .registers; pins = n; status = c .status; «last_rs» = c .«last_rs»; phase = c .phase; count = c .count })
+    (s .memory) (s .writers)
+
+-- memories of these lengths
+abbrev pub lent : ℕ → ℕ → State → State
+lent n k s = state (s .chip) (replicate n 0) (replicate k 0)

@@ -1,0 +1,17 @@
+-- Wrong chips are shut out: one computed test over the table.
+use lib.Dec.{T}
+use Rattle.cases.specs.Cited.{allowed, rowAt, commandOf, storedOf, placeOf, nextAddress, refusalOf, applied, accepted, stepOf, runOf}
+use Rattle.cases.specs.Behaviour.{chip}
+use Rattle.cases.specs.Chips.{busEvents, commandBytes, displayData, refusalsAndRuns, chipRows}
+use Rattle.cases.specs.Observed.{TellsApart}
+use Rattle.cases.specs.Table.{EachRow, eachPasses}
+use Rattle.cases.proofs.Observed.{tells, tells-apart}
+use Rattle.cases.proofs.Table.{each-row}
+
+all-tell : T (eachPasses (tells chip) chipRows)
+unfolding chip chipRows busEvents commandBytes displayData refusalsAndRuns
+    stepOf refusalOf accepted applied allowed commandOf rowAt storedOf placeOf nextAddress runOf
+all-tell = tt
+
+pub wrong-chips : EachRow (TellsApart chip) chipRows
+wrong-chips = each-row (TellsApart chip) (tells chip) (tells-apart chip) chipRows all-tell
