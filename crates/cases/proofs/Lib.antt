@@ -4,3 +4,5 @@ pub mod Meets
 pub mod Streams
 pub mod Observed
 pub mod Chips
+pub mod Glasses
+pub mod Answers

@@ -9,7 +9,9 @@ use lib.ListN.{getD, length}
 use Rattle.registers.proofs.Below.{and-left, and-right}
 use Rattle.text.proofs.Finding.{same-equal}
 use Rattle.chip.proofs.Plays.{plays-good, plays-run}
-use Rattle.cases.specs.Cited.{State, Line, Registers, Picture, values, ofValues, sameBytes, before, played, Good, Plays, pictureOf, plain, Demand3, Fit, Answer, Refused, Nothing, Acknowledged, NotAcknowledged, Read, refusalOf, stepOf}
+use Rattle.cases.specs.Cited.{Line, State, values, ofValues, Picture, pictureOf, plain, Demand3}
+use Rattle.cases.specs.Cited.{Answer, Refused, Nothing, Acknowledged, NotAcknowledged, Read, Fit, refusalOf, stepOf}
+use Rattle.cases.specs.Cited.{before, played, Good, Plays, sameBytes}
 
 -- ---- the test
 

@@ -7,7 +7,9 @@ use native.Mathlib.Omega.{arith}
 use lib.Dec.{T, T-not, ltb, ltb→lt}
 use lib.ListN.{length, take}
 use Rattle.registers.proofs.Below.{and-left, and-right}
-use Rattle.cases.specs.Cited.{allowed, rowAt, commandOf, storedOf, placeOf, nextAddress, refusalOf, applied, accepted, stepOf, numberOf, lineOf, readingFrom, readingOf, filled, setTo, lineEvents, stream, blank, bytes, sameBytes, Line, Reading, lines, faulty, linesOf, Demand3, Draws, Fit}
+use Rattle.cases.specs.Cited.{Line, Reading, faulty, lines, linesOf, bytes, sameBytes, blank, Fit, Demand3, Draws}
+use Rattle.cases.specs.Cited.{allowed, rowAt, commandOf, storedOf, placeOf, nextAddress, refusalOf, applied, accepted, stepOf}
+use Rattle.cases.specs.Cited.{numberOf, lineOf, readingFrom, readingOf, filled, setTo, lineEvents, stream}
 use Rattle.cases.specs.Start.{zeros}
 use Rattle.cases.specs.Table.{EachRow, eachPasses}
 use Rattle.cases.specs.Streams.{Output, start, linesIn, Wrong, Other, wrongOutputs, otherOutputs}
@@ -87,11 +89,15 @@ other-row o t =
 -- ---- the statements
 
 all-wrong : T (eachPasses isWrong wrongOutputs)
-unfolding wrongOutputs stepOf refusalOf accepted applied allowed commandOf rowAt storedOf placeOf nextAddress readingOf readingFrom lineOf numberOf setTo filled
+unfolding wrongOutputs
+    stepOf refusalOf accepted applied allowed commandOf rowAt storedOf placeOf nextAddress
+    readingOf readingFrom lineOf numberOf setTo filled
 all-wrong = tt
 
 all-other : T (eachPasses isOther otherOutputs)
-unfolding otherOutputs stepOf refusalOf accepted applied allowed commandOf rowAt storedOf placeOf nextAddress readingOf readingFrom lineOf numberOf setTo filled stream lineEvents
+unfolding otherOutputs
+    stepOf refusalOf accepted applied allowed commandOf rowAt storedOf placeOf nextAddress
+    readingOf readingFrom lineOf numberOf setTo filled stream lineEvents
 all-other = tt
 
 pub wrong-outputs : EachRow Wrong wrongOutputs

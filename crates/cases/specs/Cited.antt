@@ -21,6 +21,8 @@ pub use Rattle.compiler.specs.declared.answer.Numbers.{Numbers}
 pub use Rattle.compiler.specs.Compile.{Result, numbersOf, linesOf}
 pub use Rattle.compiler.specs.Demand3.{Demand3, Draws}
 pub use Rattle.compiler.specs.Plain.{Picture, pictureOf, plain}
+pub use Rattle.glass.specs.declared.answer.Shown.{Shown}
+pub use Rattle.glass.specs.declared.answer.Cell.{Cell}
 pub use Rattle.glass.specs.Answer.{shownNumber, cellNumber}
 pub use Rattle.glass.specs.Glass.{ramRowOf}
 pub use Rattle.glass.specs.Pixel.{Pixel, dark, undriven, uses, placeAt, pixelOf}

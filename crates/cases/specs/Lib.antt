@@ -6,3 +6,5 @@ pub mod Streams
 pub mod Observed
 pub mod Behaviour
 pub mod Chips
+pub mod Glasses
+pub mod Answers

@@ -4,10 +4,11 @@ use mathlib.Core.List.{List, [], _∷_, _++_}
 use Prim.Native.Nat.{ℕ, suc, _+_, _*_}
 use Prim.Native.String.{String}
 use lib.Dec.{leb, eqb}
-use Rattle.cases.specs.Cited.{getD, length, set, replicate, Registers, Chip, DO, PD, «V», D, E, MX, MY, PS, X, Y, DP, GS0, GS1, GS2, GS3, DOF}
-use Rattle.cases.specs.Cited.{values, inPhase, withRegisters, State, state, EndlessBytes, stepOf, bytes, sameBytes, Numbers, Result, compileOf, numbersOf}
+use Rattle.cases.specs.Cited.{getD, length, replicate, Registers, Chip, DO, PD, «V», D, E, MX, MY, PS, X, Y, DP, DOF}
+use Rattle.cases.specs.Cited.{values, inPhase, State, state, EndlessBytes, stepOf}
+use Rattle.cases.specs.Cited.{bytes, sameBytes, Numbers, Result, compileOf, numbersOf}
 use Rattle.cases.specs.Cited.{Pixel, dark, undriven, uses, placeAt, pixelOf, shownNumber, ramRowOf, glassOf}
-use Rattle.cases.specs.Start.{Setting, _is_, withSettings, chipWith, zeros}
+use Rattle.cases.specs.Start.{Setting, _is_, chipWith, zeros, oneCell, viewed}
 
 pub data Case : Type 0 where
   -- after reset, with these registers set, a display byte leaves these
@@ -34,14 +35,6 @@ agrees (a ∷ rest) r = eqb (getD (values r) (a .register) 0) (a .value) && agre
 -- a chip after reset with these registers set, and bytes with this RS awaited; all memory 0
 abbrev pub prepared : List Setting → Bool → State
 prepared before rs = state (inPhase (chipWith before) (EndlessBytes rs)) zeros zeros
-
--- the cell of the first worked stream
-abbrev pub oneCell : List ℕ
-oneCell = set zeros (101 * 2 + 5) 0xA7
-
--- a chip after reset with these registers set, and with grey registers that can be told apart
-abbrev pub viewed : List Setting → Chip
-viewed before = chipWith (GS0 is 40 ∷ GS1 is 41 ∷ GS2 is 42 ∷ GS3 is 43 ∷ before)
 
 abbrev pub pixel : Chip → ℕ → Pixel
 pixel c row = pixelOf (c .registers) (ramRowOf c row) (getD oneCell (placeAt (ramRowOf c row) 5) 0)

@@ -1,7 +1,7 @@
 -- The states that the cases start from: a chip after reset with some registers set.
 use mathlib.Core.List.{List, [], _∷_}
-use Prim.Native.Nat.{ℕ}
-use Rattle.cases.specs.Cited.{Registers, Chip, State, state, places, put, resetRegisters, resetChip, withRegisters, replicate}
+use Prim.Native.Nat.{ℕ, _+_, _*_}
+use Rattle.cases.specs.Cited.{Registers, Chip, State, state, places, put, resetRegisters, resetChip, withRegisters, replicate, set, GS0, GS1, GS2, GS3}
 
 -- a register and its value
 pub record Setting : Type 0 where
@@ -44,3 +44,13 @@ withPins n s =
 -- memories of these lengths
 abbrev pub lent : ℕ → ℕ → State → State
 lent n k s = state (s .chip) (replicate n 0) (replicate k 0)
+
+-- ---- what is shown
+
+-- the cell of the first worked stream
+abbrev pub oneCell : List ℕ
+oneCell = set zeros (101 * 2 + 5) 0xA7
+
+-- a chip after reset with these registers set, and with grey registers that can be told apart
+abbrev pub viewed : List Setting → Chip
+viewed before = chipWith (GS0 is 40 ∷ GS1 is 41 ∷ GS2 is 42 ∷ GS3 is 43 ∷ before)

@@ -3,7 +3,8 @@ use mathlib.Core.List.{List, [], _∷_, _++_}
 use mathlib.Core.Path.{_≡_}
 use Prim.Native.Nat.{ℕ, _+_}
 use Prim.Native.String.{String}
-use Rattle.cases.specs.Cited.{H, DO, «V», MX, State, Line, length, bytes, blank, message, dataMessage, readingOf, lines, linesOf, stream, Demand3, Draws}
+use Rattle.cases.specs.Cited.{length, H, DO, «V», MX, blank, State, message, dataMessage, bytes}
+use Rattle.cases.specs.Cited.{Line, lines, readingOf, linesOf, stream, Demand3, Draws}
 use Rattle.cases.specs.Start.{Setting, _is_, upon}
 
 -- an output for a drawing list: the registers that are set after reset, the list's text, and the events that stand in the output
@@ -71,12 +72,15 @@ wrongOutputs =
     ∷ output (DO is 1 ∷ []) "put\t5\t2\t167\n" (display (return ∷ x 5 ∷ y 2 ∷ []) (0xA7 ∷ []))
     -- MX = 1, and the run goes to the column as if MX were 0
     ∷ output (MX is 1 ∷ []) "put\t5\t2\t167\n" (display (return ∷ x 5 ∷ y 2 ∷ []) (0xA7 ∷ []))
+    -- MX = 1, and columns are mirrored from 101
+    ∷ output (MX is 1 ∷ []) "put\t5\t2\t167\n" (display (return ∷ x 96 ∷ y 2 ∷ []) (0xA7 ∷ []))
     -- MX = 1, and the run starts at the X of the first column
     ∷ output (MX is 1 ∷ []) "fill\t5\t7\t2\t2\t167\n" (display (return ∷ x 95 ∷ y 2 ∷ []) (0xA7 ∷ 0xA7 ∷ 0xA7 ∷ []))
     -- V = 1, and the run goes along the bank
     ∷ output («V» is 1 ∷ []) "fill\t5\t6\t2\t2\t167\n" (display (return ∷ x 5 ∷ y 2 ∷ []) (0xA7 ∷ 0xA7 ∷ []))
     -- V = 1, and the next run goes to the column before
-    ∷ output («V» is 1 ∷ []) "fill\t5\t6\t2\t2\t167\n" (display (return ∷ x 5 ∷ y 2 ∷ []) (0xA7 ∷ []) ++ display (return ∷ x 4 ∷ y 2 ∷ []) (0xA7 ∷ []))
+    ∷ output («V» is 1 ∷ []) "fill\t5\t6\t2\t2\t167\n"
+    (display (return ∷ x 5 ∷ y 2 ∷ []) (0xA7 ∷ []) ++ display (return ∷ x 4 ∷ y 2 ∷ []) (0xA7 ∷ []))
     -- the second bank is left out
     ∷ output [] "fill\t5\t5\t2\t3\t167\n" (display (return ∷ x 5 ∷ y 2 ∷ []) (0xA7 ∷ []))
     -- a byte too few, and one too many
