@@ -5,3 +5,4 @@ pub mod Within
 pub mod Parts
 pub mod Put
 pub mod Encode
+pub mod Refusals

@@ -5,4 +5,5 @@ pub mod Table
 pub mod Data
 pub mod Listed
 pub mod State
+pub mod Refusals
 pub mod Encode

@@ -102,13 +102,29 @@ abbrev pub resetChip : ℕ → Chip
 resetChip pins =
     record { registers = resetRegisters; pins = pins; status = 0; «last_rs» = false; phase = Idle; count = 0 }
 
-abbrev pub inPhase : Chip → Phase → Chip
-inPhase c p =
-    record { registers = c .registers; pins = c .pins; status = c .status; «last_rs» = c .«last_rs»; phase = p; count = c .count }
+-- ---- the same record but for one thing: every change of a chip is made of these
 
 abbrev pub withRegisters : Chip → Registers → Chip
 withRegisters c r =
     record { registers = r; pins = c .pins; status = c .status; «last_rs» = c .«last_rs»; phase = c .phase; count = c .count }
+
+abbrev pub withStatus : Chip → ℕ → Chip
+withStatus c n =
+    record { registers = c .registers; pins = c .pins; status = n; «last_rs» = c .«last_rs»; phase = c .phase; count = c .count }
+
+abbrev pub withLastRs : Chip → Bool → Chip
+withLastRs c rs =
+    record { registers = c .registers; pins = c .pins; status = c .status; «last_rs» = rs; phase = c .phase; count = c .count }
+
+abbrev pub inPhase : Chip → Phase → Chip
+inPhase c p =
+    record { registers = c .registers; pins = c .pins; status = c .status; «last_rs» = c .«last_rs»; phase = p; count = c .count }
+
+abbrev pub withCount : Chip → ℕ → Chip
+withCount c n =
+    record { registers = c .registers; pins = c .pins; status = c .status; «last_rs» = c .«last_rs»; phase = c .phase; count = n }
+
+-- ---- what is allowed
 
 -- t, and each number within its limit
 abbrev pub within : Bool → List ℕ → List ℕ → Bool

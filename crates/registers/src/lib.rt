@@ -6,6 +6,7 @@ mod bytes;
 mod entry;
 pub mod limits;
 pub mod names;
+pub mod refusal;
 pub mod reversed;
 pub mod rows;
 pub mod table;
