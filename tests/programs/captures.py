@@ -103,6 +103,23 @@ def pieces(sides):
         sides.same_in_pieces(BOTH[i % 2], data, lambda whole: in_parts(source, whole))
 
 
+# Small captures, good ones and bad ones, to be cut at every place.
+SMALL = [
+    texts.capture([256, 0x78, 0x80, 0x01, 0x80, 0x85, 0x80, 0x42, 0x40, 0xA7, 257]),
+    b"pins\t3\n", b"pins\t4\n256\n", b"pins\t0\n256\n012\n257\n", b"pins\t0\r\n256\r\n",
+    b"pins\t0\n256\n257", b"pins\t0\n256\n261\n257\n", b"pins\t0\n1200\n256\n",
+]
+
+
+def every_cut(sides):
+    """Captures that come through a pipe in two pieces, cut at every place, and byte by byte."""
+    for i, data in enumerate(SMALL):
+        for at in sides.sample(range(1, len(data)), 4):
+            sides.same_in_pieces(BOTH[(i + at) % 2], data, lambda whole: (whole[:at], whole[at:]))
+        for program in BOTH:
+            sides.same_in_pieces(program, data, lambda whole: [whole[k:k + 1] for k in range(len(whole))])
+
+
 def long_captures(sides):
     """Ends and bad lines around the sizes that a buffer may have."""
     source = random.Random(12)
@@ -149,4 +166,4 @@ def damaged_captures(sides):
 
 
 THEMES = [known, pins, event_lines, event_numbers, many_writes, random_captures, damaged_captures,
-          long_captures, pieces]
+          long_captures, pieces, every_cut]

@@ -8,9 +8,12 @@ What is asked of a program, by what the model does:
   is not 0 where that is asked for. (It is not asked of a Rattle program: it ends with 0 whenever its
   `main` returns.)
 """
+import array
+import fcntl
 import os
 import subprocess
 import sys
+import termios
 import time
 
 SECONDS = 120
@@ -44,15 +47,24 @@ def run(words, data):
     return finish(begin(words), data)
 
 
+def wait_until_read(process):
+    """Until the program has read all that was written to it, or has ended."""
+    left = array.array("i", [1])
+    until = time.monotonic() + SECONDS
+    while left[0] and process.poll() is None and time.monotonic() < until:
+        fcntl.ioctl(process.stdin.fileno(), termios.FIONREAD, left)
+        time.sleep(0.0001)
+
+
 def run_in_pieces(words, data, pieces):
-    """The input comes in pieces, with a little time between them, so that reads are short."""
+    """The input comes through a pipe in pieces, each after the one before it was read, so that every cut is one between two reads."""
     process = begin(words)
     for piece in pieces(data):
         try:
             os.write(process.stdin.fileno(), piece)
         except BrokenPipeError:
             break
-        time.sleep(0.0005)
+        wait_until_read(process)
     return finish(process, b"")
 
 
