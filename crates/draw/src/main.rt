@@ -91,10 +91,10 @@ fn main() {
     let words = os::arg_count();
     let pins = pins();
     if words < 2 || 3 < words || 3 < pins {
-        input::say(b"usage: draw PINS [LIST], where PINS is 0, 1, 2 or 3\n");
+        program_io::say(b"usage: draw PINS [LIST], where PINS is 0, 1, 2 or 3\n");
         return;
     }
-    let fd = input::open(2);
+    let fd = program_io::open_input(2);
     if fd < 0 {
         return;
     }

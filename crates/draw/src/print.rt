@@ -2,17 +2,10 @@
 ghost use mathlib.Core.Path.{_≡_};
 ghost use Rattle.text.specs.Printed.{Wrote};
 ghost use Rattle.draw.specs.Lines.{eventsText};
-use libc::STDOUT_FILENO;
 
 const TAB: u8 = 9;
 
 const NEWLINE: u8 = 10;
-
-fn put(text: &[u8], length: usize) {
-    if length <= text.len() {
-        io::write_all(STDOUT_FILENO, &text[..length]);
-    }
-}
 
 // `refused`, the number, and the line, which is 0 where there is none.
 pub fn refused(number: u64, line: u64) {
@@ -20,14 +13,14 @@ pub fn refused(number: u64, line: u64) {
     let word = text::print::bytes(b"refused\t", &mut out, 0);
     let after_number = text::print::field(number, TAB, &mut out, word);
     let length = text::print::field(line, NEWLINE, &mut out, after_number);
-    put(&out, length);
+    program_io::put(&out, length);
 }
 
 pub fn first_line(pins: u8) {
     let mut out = [0u8; 64];
     let word = text::print::bytes(b"pins\t", &mut out, 0);
     let length = text::print::field(pins as u64, NEWLINE, &mut out, word);
-    put(&out, length);
+    program_io::put(&out, length);
 }
 
 fn number(event: u16) -> u64
@@ -53,5 +46,5 @@ fn lines(events: &[u16], out: &mut [u8]) -> usize
 pub fn events(events: &[u16]) {
     let mut out = [0u8; 10908];
     let length = lines(events, &mut out);
-    put(&out, length);
+    program_io::put(&out, length);
 }

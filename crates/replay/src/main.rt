@@ -1,28 +1,19 @@
 // replay [CAPTURE]: plays a capture on a chip after reset and lists the cells that it wrote, each with the event that wrote it last, or says at which
 // line the capture is bad. The capture is the file that the argument names, or standard input; it is never held as a whole.
-mod input;
-
 use capture::End;
-use libc::STDOUT_FILENO;
-
-fn put(text: &[u8], length: usize) {
-    if length <= text.len() {
-        io::write_all(STDOUT_FILENO, &text[..length]);
-    }
-}
 
 // Bad at line n + k, a number that may be past the largest u64.
 fn refused(n: u64, k: u8) {
     let mut out = [0u8; 64];
     let length = listing::refused(n, k, &mut out).length();
-    put(&out, length);
+    program_io::put(&out, length);
 }
 
 // No listing is longer than 54,967 bytes.
 fn list(memory: &[u8], writers: &[u64]) {
     let mut out = io::large_buffer();
     let length = listing::listing(memory, writers, &mut out).length();
-    put(&out, length);
+    program_io::put(&out, length);
 }
 
 fn tell(end: End, memory: &[u8], writers: &[u64]) {
@@ -47,10 +38,10 @@ fn replay(fd: i32) {
 
 fn main() {
     if 2 < os::arg_count() {
-        input::say(b"usage: replay [CAPTURE]\n");
+        program_io::say(b"usage: replay [CAPTURE]\n");
         return;
     }
-    let fd = input::open(1);
+    let fd = program_io::open_input(1);
     if fd < 0 {
         return;
     }

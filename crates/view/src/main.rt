@@ -1,24 +1,15 @@
 // view [CAPTURE]: plays a capture on a chip after reset and prints what the glass then shows, as a portable pixmap, or says at which line the capture
 // is bad. The capture is the file that the argument names, or standard input; it is never held as a whole.
-mod input;
-
 ghost use mathlib.Core.Path.{_≡_};
 ghost use lib.ListN.{length};
 use capture::End;
-use libc::STDOUT_FILENO;
 use registers::Chip;
-
-fn put(text: &[u8], length: usize) {
-    if length <= text.len() {
-        io::write_all(STDOUT_FILENO, &text[..length]);
-    }
-}
 
 // Bad at line n + k, a number that may be past the largest u64.
 fn refused(n: u64, k: u8) {
     let mut out = [0u8; 64];
     let length = listing::refused(n, k, &mut out).length();
-    put(&out, length);
+    program_io::put(&out, length);
 }
 
 // Room for the longest picture.
@@ -31,7 +22,7 @@ fn room() -> [u8; 81218]
 fn show(chip: Chip, memory: &[u8]) {
     let mut out = room();
     let length = picture::pixmap(chip, memory, &mut out).length();
-    put(&out, length);
+    program_io::put(&out, length);
 }
 
 fn tell(end: End, memory: &[u8]) {
@@ -56,10 +47,10 @@ fn view(fd: i32) {
 
 fn main() {
     if 2 < os::arg_count() {
-        input::say(b"usage: view [CAPTURE]\n");
+        program_io::say(b"usage: view [CAPTURE]\n");
         return;
     }
-    let fd = input::open(1);
+    let fd = program_io::open_input(1);
     if fd < 0 {
         return;
     }

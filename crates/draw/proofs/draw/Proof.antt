@@ -33,7 +33,10 @@ draw-line-requires : tie.Need-draw-line-requires Inv-loop μ-loop
 draw-line-requires c κs = search needs
 
 loop-less : tie.Need-loop-less Inv-loop μ-loop
-loop-less c = omega (arith, c .before .before .before .before .before .before .before .before .before .before .before .before .loop-test .taken, reading-next _ _ 1 (c .before .before .before .before .before .before .before .before .before .before .before .before .loop-test .taken) _ (c .before .before .before .before .before .before .before .before .before .before .before .line-at .ensures))
+loop-less c =
+    let line = c .before .before .before .before .before .before .before .before .before .before .before in
+    let test = line .before .loop-test .taken in
+    omega (arith, test, reading-next _ _ 1 test _ (line .line-at .ensures))
 
 loop-again : tie.Need-loop-again Inv-loop μ-loop
 loop-again c = (search needs, search needs, search needs)

@@ -7,7 +7,7 @@ use native.Mathlib.Omega.{arith}
 use Rattle.text.specs.Printed.{top, Wrote, partsFrom}
 use Rattle.text.proofs.Writing.{wrote-next}
 use Rattle.draw.specs.Lines.{eventLine, eventsText}
-use Rattle.draw.proofs.Turns.{all-left, event-turn, none-left}
+use Rattle.draw.proofs.CodeWays.{all-left, event-turn, none-left}
 use borrow.Author.Needs.{needs}
 use Rattle.draw.proofs.print.lines.Statement.{statement}
 use Rattle.draw.proofs.print.lines.Tie as tie
@@ -44,20 +44,27 @@ loop-less : tie.Need-loop-less Inv-loop μ-loop
 loop-less c = search needs
 
 loop-again : tie.Need-loop-again Inv-loop μ-loop
-loop-again c = (
-  search needs,
-  wrote-next (c .before .before .field .ensures),
-  search needs,
-  λ l j w.
-      c .before .before .before .before .before .before .before .loop .inv .3 l j
-      (event-turn (now (c .before .before .before .before .before .before .before .before .before .before .args .events)) _ _ (c .before .before .before .before .before .before .loop-test .taken) (omega arith) (c .before .before .before .before .number .ensures) (c .before .before .field .ensures) w),
-)
+loop-again c =
+    let field = c .before .before in
+    let number = field .before .before in
+    let test = number .before .before in
+    let head = test .before in
+    let events = now (head .before .before .before .args .events) in (
+      search needs,
+      wrote-next (field .field .ensures),
+      search needs,
+      λ l j w. head .loop .inv .3 l j
+          (event-turn events _ _ (test .loop-test .taken) (omega arith) (number .number .ensures) (field .field .ensures) w),
+    )
 
 same-length : tie.Need-same-length Inv-loop μ-loop
 same-length c = search needs
 
 returns : tie.Need-returns Inv-loop μ-loop
-returns c = c .before .loop .inv .3 _ _ (none-left (now (c .before .before .before .before .args .events)) _ _ _ (c .before .loop .inv .1) (c .loop-test .left))
+returns c =
+    let head = c .before in
+    let events = now (head .before .before .before .args .events) in
+    head .loop .inv .3 _ _ (none-left events _ _ _ (head .loop .inv .1) (c .loop-test .left))
 
 pub lines-spec : {M : Type 1} → statement M
 lines-spec =

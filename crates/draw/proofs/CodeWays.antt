@@ -1,4 +1,4 @@
--- Turn by turn: the events of a capture, one a line.
+-- Ways through the code, over plain variables: the events of a capture, one a line.
 use mathlib.Core.List.{List, [], _∷_, _++_}
 use mathlib.Core.Path.{_≡_, ap}
 use Prim.Native.Nat.{ℕ, _+_, _-_, _≤_, _<_}
