@@ -1,3 +1,4 @@
+pub mod CodeWays
 pub mod Ranges
 pub mod Words
 pub mod Spellings

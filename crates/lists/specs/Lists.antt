@@ -1,9 +1,9 @@
 -- A whole drawing list: its lines, or its first fault; and the line at a place of its text.
-use mathlib.Core.Bool.{cond}
+use mathlib.Core.Bool.{cond, _||_}
 use mathlib.Core.List.{List, [], _∷_}
 use Prim.Native.Nat.{ℕ, _+_, _-_}
-use lib.Dec.{ltb}
-use lib.ListN.{length, take, drop}
+use lib.Dec.{eqb, leb, ltb}
+use lib.ListN.{length, getD, take, drop}
 use denote.Ref.{RefT, now}
 use Rattle.text.specs.Text.{split, countOf, findOf}
 use Rattle.lists.specs.declared.Line.{Line}
@@ -54,25 +54,36 @@ readingOf text = readingFrom 1 text
 
 -- ---- place by place
 
-abbrev pub lineUpTo : ℕ → List ℕ → ℕ → LineAt
-lineUpTo end text at =
-    cond (ltb end (length text)) (record { parsed = lineOf (take (end - at) (drop at text)); next = end + 1 })
-    (record { parsed = Bad 6; next = length text })
+-- behind the newline at `end`, or at the text's end where there is none
+abbrev pub behind : ℕ → List ℕ → ℕ
+behind end text = cond (ltb end (length text)) (end + 1) (length text)
 
--- the line that starts at `at`, up to the next newline, and the place after that; 6 where no newline follows
+-- where the next line starts
+unfoldable pub nextLine : List ℕ → ℕ → ℕ
+nextLine text at = behind (findOf text at newline) text
+
+-- the bytes up to the newline at `end`; 6 where there is none
+abbrev pub lineUpTo : ℕ → List ℕ → ℕ → Parsed
+lineUpTo end text at = cond (ltb end (length text)) (lineOf (take (end - at) (drop at text))) (Bad 6)
+
+-- the line that starts at `at`, and where the next one starts
 unfoldable pub lineAt : List ℕ → ℕ → LineAt
-lineAt text at = lineUpTo (findOf text at newline) text at
+lineAt text at = record { parsed = lineUpTo (findOf text at newline) text at; next = nextLine text at }
+
+-- how many newlines the byte before a place is: 1 or 0
+unfoldable pub newlineBefore : List ℕ → ℕ → ℕ
+newlineBefore text at = cond (eqb at 0 || leb (length text) (at - 1)) 0 (cond (eqb (getD text (at - 1) 0) newline) 1 0)
 
 -- ---- the reader: a lent text, and a place in it
 
 -- as it is made
-abbrev pub atStart : RefT (List ℕ) → Reader
-atStart text = record { text = text; at = 0 }
-
--- at another place of the same text
-abbrev pub movedTo : Reader → ℕ → Reader
-movedTo r at = record { text = r .text; at = at }
+abbrev pub readerAt : RefT (List ℕ) → ℕ → Reader
+readerAt text at = record { text = text; at = at }
 
 -- what it gives where it stands
 abbrev pub lineHere : Reader → LineAt
 lineHere r = lineAt (now (r .text)) (r .at)
+
+-- past the line where it stands
+abbrev pub pastLine : Reader → Reader
+pastLine r = record { text = r .text; at = nextLine (now (r .text)) (r .at) }

@@ -1,7 +1,7 @@
 // The list reader: the text of a drawing list, and where in it the next line starts. The functions over it are thin, since each
 // of them is proved by hand; the work is left to one over a plain slice and a position, which is not.
 ghost use mathlib.Core.Path.{_≡_};
-ghost use Rattle.lists.specs.Lists.{lineAt, atStart, movedTo, lineHere};
+ghost use Rattle.lists.specs.Lists.{lineAt, nextLine, readerAt, lineHere, pastLine};
 use crate::LineAt;
 use crate::Parsed;
 
@@ -30,25 +30,22 @@ fn line_from(text: &[u8], at: usize) -> LineAt
     }
 }
 
-// A reader at the start of a text.
-pub fn new<'a>(text: &'a [u8]) -> Reader<'a>
-    ensures { λ r. ⌜ r ≡ atStart (text .entry) ⌝ }
+// The place behind the next newline, or the end of the text where none follows.
+fn next_line(text: &[u8], at: usize) -> usize
+    ensures { λ r. ⌜ r ≡ nextLine (now (text .entry)) at ⌝ }
 {
-    Reader { text, at: 0 }
+    let end = text::search::find(text, at, NEWLINE);
+    if end < text.len() {
+        return end + 1;
+    }
+    text.len()
 }
 
-// Where it stands.
-pub fn place<'a>(r: Reader<'a>) -> usize
-    ensures { λ n. ⌜ n ≡ r .entry .at ⌝ }
+// A reader at a place of a text.
+pub fn new<'a>(text: &'a [u8], at: usize) -> Reader<'a>
+    ensures { λ r. ⌜ r ≡ readerAt (text .entry) at ⌝ }
 {
-    r.at
-}
-
-// The same text at another place: a line's `next` moves it on.
-pub fn moved<'a>(r: Reader<'a>, at: usize) -> Reader<'a>
-    ensures { λ q. ⌜ q ≡ movedTo (r .entry) at ⌝ }
-{
-    Reader { text: r.text, at }
+    Reader { text, at }
 }
 
 // The line where it stands, and where the next one starts.
@@ -56,4 +53,14 @@ pub fn line<'a>(r: Reader<'a>) -> LineAt
     ensures { λ l. ⌜ l ≡ lineHere (r .entry) ⌝ }
 {
     line_from(r.text, r.at)
+}
+
+// The reader past the line where it stands.
+pub fn next<'a>(r: Reader<'a>) -> Reader<'a>
+    ensures { λ q. ⌜ q ≡ pastLine (r .entry) ⌝ }
+{
+    Reader {
+        text: r.text,
+        at: next_line(r.text, r.at),
+    }
 }
