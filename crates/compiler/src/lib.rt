@@ -19,8 +19,6 @@ mod message;
 mod setting;
 mod write;
 
-const NEWLINE: u8 = 10;
-
 // The registers that a list says something of. H, X and Y are blanked: every message sets its own.
 fn blanked(mut registers: Registers) -> Registers
     ensures { λ r. ⌜ r ≡ blank registers ⌝ }
@@ -59,7 +57,7 @@ pub fn compile(chip: Chip, text: &[u8], out: &mut [u16]) -> Compiled
     if !chip.allowed() {
         return Compiled::Refused(2);
     }
-    if 4096 < text::search::count(text, NEWLINE) {
+    if 4096 < lists::count_newlines(text) {
         return Compiled::Refused(9);
     }
     compile_lines(blanked(chip.registers), chip.pins, text, out)

@@ -14,14 +14,14 @@ returns c =
     let asked = c .before .allowed in
     not-allowed _ _ _ (sym (asked .ensures) ∙ not-true (asked .result) (c .if1 .taken))
 
-count-requires : tie.Need-count-requires
-count-requires c κs = search needs
+count-newlines-requires : tie.Need-count-newlines-requires
+count-newlines-requires c κs = search needs
 
 returns-2 : tie.Need-returns-2
 returns-2 c =
     let first = c .before .before in
     let asked = first .before .allowed in
-    too-long _ _ _ (sym (asked .ensures) ∙ not-false (asked .result) (first .if1 .left)) (c .before .count .ensures) (c .if2 .taken)
+    too-long _ _ _ (sym (asked .ensures) ∙ not-false (asked .result) (first .if1 .left)) (c .before .count-newlines .ensures) (c .if2 .taken)
 
 blanked-requires : tie.Need-blanked-requires
 blanked-requires c κs = search needs
@@ -33,7 +33,7 @@ compile-lines-requires c κs =
     let asked = first .before .allowed in
     let ok = sym (asked .ensures) ∙ not-false (asked .result) (first .if1 .left) in
     let start = first .before .before .before .before in
-    readable _ (now (start .args .text)) ok (second .before .count .ensures) (second .if2 .left) (c .before .blanked .ensures)
+    readable _ (now (start .args .text)) ok (second .before .count-newlines .ensures) (second .if2 .left) (c .before .blanked .ensures)
 
 same-length : tie.Need-same-length
 same-length c = search needs
@@ -45,7 +45,7 @@ returns-3 c =
     let asked = first .before .allowed in
     let ok = sym (asked .ensures) ∙ not-false (asked .result) (first .if1 .left) in
     let blanked = c .before .before .before .before .blanked in
-    read _ _ _ ok (second .before .count .ensures) (second .if2 .left) (blanked .ensures) _ _ (c .before .before .compile-lines .ensures)
+    read _ _ _ ok (second .before .count-newlines .ensures) (second .if2 .left) (blanked .ensures) _ _ (c .before .before .compile-lines .ensures)
 
 pub compile-spec : {M : Type 1} → statement M
 compile-spec =
@@ -53,7 +53,7 @@ compile-spec =
     (tie.spec
     allowed-requires
     returns
-    count-requires
+    count-newlines-requires
     returns-2
     blanked-requires
     compile-lines-requires
