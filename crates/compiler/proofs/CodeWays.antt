@@ -18,8 +18,8 @@ use Rattle.lists.specs.declared.Line.the-variants.{Fill, Set}
 use Rattle.lists.specs.declared.LineAt.{LineAt}
 use Rattle.lists.specs.declared.Parsed.the-variants.{Good, Bad}
 use Rattle.lists.specs.Lists.{Reading, faulty, lines, alsoLine, readingFrom, readingOf, newlines, lineAt}
-use Rattle.lists.specs.Spelling.{Sound, AllSound}
-use Rattle.lists.proofs.Positions.{reading-bad, reading-good, reading-next, reading-end, reading-whole, line-sound, newlines-left}
+use Rattle.lists.specs.Syntax.{Valid, AllValid}
+use Rattle.lists.proofs.Positions.{reading-bad, reading-good, reading-next, reading-end, reading-whole, line-valid, newlines-left}
 use Rattle.lists.proofs.Readings.{Accepted, not-lines, same-lines, reading-accepted}
 use Rattle.compiler.specs.declared.answer.Compiled.{Compiled}
 use Rattle.compiler.specs.declared.answer.Compiled.the-variants.{Done, Refused, BadLine, Short}
@@ -67,14 +67,14 @@ fill-limit q c0 c1 b0 b1 hc hb = go (eqb (q .v) 1)
     go true = down-limit
     go false = omega (arith, across-limit)
 
-pub line-limit : (pins : ℕ) (l : Line) (q : Registers) → Sound l → length (lineEvents pins l q) ≤ 2727
-unfolding Sound lineEvents
+pub line-limit : (pins : ℕ) (l : Line) (q : Registers) → Valid l → length (lineEvents pins l q) ≤ 2727
+unfolding Valid lineEvents
 line-limit pins (Fill c0 c1 b0 b1 n) q s = omega (arith, fill-length pins q c0 c1 b0 b1 n, fill-limit q c0 c1 b0 b1 (s .last-column) (s .last-bank))
 line-limit pins (Set f n) q s =
     omega (arith, set-room pins (Set f n) q f n (setTo f n q) refl refl, set-length f (setTo f n q), set-length-bound f)
 
-pub stream-limit : (pins : ℕ) (ls : List Line) (q : Registers) → AllSound ls → length (stream pins ls q) ≤ length ls * 2727
-unfolding stream AllSound
+pub stream-limit : (pins : ℕ) (ls : List Line) (q : Registers) → AllValid ls → length (stream pins ls q) ≤ length ls * 2727
+unfolding stream AllValid
 stream-limit pins [] q s = omega arith
 stream-limit pins (l ∷ ls) q s =
     omega (
@@ -144,7 +144,7 @@ module _ {text : List ℕ} {pins : ℕ} {q₀ : Registers} {at number : ℕ} {q 
     module _ (y : Line) (h : x .parsed ≡ Good y) where
       -- the sums stay small, whatever the list is
       pub measuring-room : (ne : ℕ) → ne ≡ length (lineEvents pins y q) → n + ne < 2 ^ 32
-      measuring-room ne he = omega (arith, he, m .lines-left, m .limit, line-limit pins y q (line-sound text at l x e y h))
+      measuring-room ne he = omega (arith, he, m .lines-left, m .limit, line-limit pins y q (line-valid text at l x e y h))
 
       pub measuring-byte-room : (nb : ℕ) → nb ≡ byteEvents (lineEvents pins y q) → b + nb < 2 ^ 32
       measuring-byte-room nb hb =
@@ -157,7 +157,7 @@ module _ {text : List ℕ} {pins : ℕ} {q₀ : Registers} {at number : ℕ} {q 
           → q′ ≡ registersAfter y q
           → Measuring text pins q₀ (x .next) (number + 1) q′ (n + ne) (b + nb)
       measuring-turn ne nb q′ he hb hq =
-          let ok = line-sound text at l x e y h in
+          let ok = line-valid text at l x e y h in
           let es = lineEvents pins y q in
           record {
             place = reading-next text at number l x e .1;
@@ -236,8 +236,8 @@ module _ {text : List ℕ} {pins : ℕ} {q₀ : Registers} {out₀ : List ℕ} {
       events-count : length (stream pins (m .left) q) ≡ length (lineEvents pins y q) + length (stream pins (rest-of .rest) (registersAfter y q))
       events-count = ap length events-are ∙ length-append (lineEvents pins y q) (stream pins (rest-of .rest) (registersAfter y q))
 
-      pub writing-room : Sound y × (here + length (lineEvents pins y q) ≤ length out)
-      writing-room = (line-sound text at l x e y h, omega (arith, m .room, events-count))
+      pub writing-room : Valid y × (here + length (lineEvents pins y q) ≤ length out)
+      writing-room = (line-valid text at l x e y h, omega (arith, m .room, events-count))
 
       pub writing-turn :
           (out′ : List ℕ) (here′ : ℕ) (q′ : Registers)

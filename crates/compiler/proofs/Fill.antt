@@ -18,7 +18,7 @@ use Rattle.registers.proofs.Within.{register-bound, both-left, both-right}
 use Rattle.chip.specs.Paint.{In, Paints}
 use Rattle.chip.specs.Plays.{Plays, Sees}
 use Rattle.chip.proofs.Plays.{plays-weaken}
-use Rattle.lists.specs.Spelling.{Cells}
+use Rattle.lists.specs.Syntax.{ValidFill}
 use Rattle.compiler.specs.Plain.{isInside, filledFrom, filled}
 use Rattle.compiler.specs.Stream.{across, down, fill, firstX}
 use Rattle.compiler.proofs.Fills.{Drawn, seen-allowed, across-plays, down-plays}
@@ -90,7 +90,7 @@ first-low false c0 c1 o l = (omega arith, omega arith)
 
 -- ---- the fill
 
-module _ (mx c0 c1 b0 b1 n : ℕ) (fits : Cells c0 c1 b0 b1 n) (m m′ : List ℕ) (paints : Paints (In mx (firstX mx c0 c1) (c1 - c0 + 1) b0 (b1 - b0 + 1)) n m m′) where
+module _ (mx c0 c1 b0 b1 n : ℕ) (fits : ValidFill c0 c1 b0 b1 n) (m m′ : List ℕ) (paints : Paints (In mx (firstX mx c0 c1) (c1 - c0 + 1) b0 (b1 - b0 + 1)) n m m′) where
   pub painted-plain : m′ ≡ filled c0 c1 b0 b1 n m
   painted-plain =
       ext-getD 0 m′ (filled c0 c1 b0 b1 n m) (paints .same-length ∙ sym (filled-length c0 c1 b0 b1 n m))
@@ -117,7 +117,7 @@ pub record Shows (q : Registers) (m : List ℕ) (pins n : ℕ) (s : State) : Typ
   pub same : blank full ≡ q
 
 pub fill-plays :
-    (c0 c1 b0 b1 n : ℕ) → Cells c0 c1 b0 b1 n → (q : Registers) (m : List ℕ) (pins k : ℕ) (s : State) → Shows q m pins (length (fill pins q c0 c1 b0 b1 n) + k) s
+    (c0 c1 b0 b1 n : ℕ) → ValidFill c0 c1 b0 b1 n → (q : Registers) (m : List ℕ) (pins k : ℕ) (s : State) → Shows q m pins (length (fill pins q c0 c1 b0 b1 n) + k) s
     → Plays (fill pins q c0 c1 b0 b1 n) (Shows q (filled c0 c1 b0 b1 n m) pins k) s
 fill-plays c0 c1 b0 b1 n fits q m pins k s shows = go (eqb (q .v) 1) refl
   where

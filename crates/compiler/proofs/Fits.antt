@@ -11,12 +11,12 @@ use Rattle.registers.proofs.Below.{allBelow, below-at, and-left, and-right}
 use Rattle.lists.specs.declared.Line.{Line}
 use Rattle.lists.specs.declared.Line.the-variants.{Fill, Set}
 use Rattle.lists.specs.Fields.{fieldPlaces}
-use Rattle.lists.specs.Spelling.{Cells, Sound, AllSound}
+use Rattle.lists.specs.Syntax.{ValidFill, Valid, AllValid}
 use Rattle.compiler.proofs.Set.{SetFits}
 
 -- what a line that is accepted keeps to
 abbrev pub LineFits : Line → Type 0
-LineFits (Fill c0 c1 b0 b1 n) = Cells c0 c1 b0 b1 n
+LineFits (Fill c0 c1 b0 b1 n) = ValidFill c0 c1 b0 b1 n
 LineFits (Set f n) = SetFits f n
 
 abbrev pub AllFit : List Line → Type 0
@@ -46,15 +46,15 @@ named-fits f n t v =
     }
 
 -- what the grammar lets pass keeps to the limits
-pub line-fits : (l : Line) → Sound l → LineFits l
-unfolding Sound
+pub line-fits : (l : Line) → Valid l → LineFits l
+unfolding Valid
 line-fits (Fill c0 c1 b0 b1 n) s = s
 line-fits (Set f n) s =
     named-fits f n
     (subst (λ (g : ℕ). T (nameable g)) (sym (s .place)) (below-at 25 (λ (k : ℕ). nameable (getD fieldPlaces k 0)) all-nameable (s .field) (s .known)))
     (s .value)
 
-pub all-fit : (ls : List Line) → AllSound ls → AllFit ls
-unfolding AllSound
+pub all-fit : (ls : List Line) → AllValid ls → AllFit ls
+unfolding AllValid
 all-fit [] s = tt
 all-fit (l ∷ ls) s = (line-fits l (s .0), all-fit ls (s .1))

@@ -10,7 +10,7 @@ use Rattle.chip.proofs.Plays.{singles-length}
 use Rattle.chip.specs.Plays.{writeAddress, singles, message, Bytes}
 use Rattle.lists.specs.declared.Line.{Line}
 use Rattle.lists.specs.declared.Line.the-variants.{Fill, Set}
-use Rattle.lists.specs.Spelling.{Cells, Sound}
+use Rattle.lists.specs.Syntax.{ValidFill, Valid}
 use Rattle.compiler.specs.Plain.{setTo, registersAfter}
 use Rattle.compiler.specs.Stream.{fill, setCommands, lineEvents, byteEvents}
 use Rattle.compiler.specs.Writes.{Wrote, Tracked, fillCount, setLength}
@@ -79,10 +79,10 @@ module _ (l : Line) (r : Registers) where
 
 -- ---- what a line's kind asks of it
 
-module _ (l : Line) (s : Sound l) where
-  pub sound-cells : (c0 c1 b0 b1 n : ℕ) → l ≡ Fill c0 c1 b0 b1 n → Cells c0 c1 b0 b1 n
-  unfolding Sound
-  sound-cells c0 c1 b0 b1 n e = subst Sound e s
+module _ (l : Line) (s : Valid l) where
+  pub valid-fill : (c0 c1 b0 b1 n : ℕ) → l ≡ Fill c0 c1 b0 b1 n → ValidFill c0 c1 b0 b1 n
+  unfolding Valid
+  valid-fill c0 c1 b0 b1 n e = subst Valid e s
 
 module _ (pins : ℕ) (l : Line) (q : Registers) where
   pub fill-told : (c0 c1 b0 b1 n : ℕ) → l ≡ Fill c0 c1 b0 b1 n → lineEvents pins l q ≡ fill pins q c0 c1 b0 b1 n
@@ -115,14 +115,14 @@ module _ (pins : ℕ) (l : Line) (q : Registers) where
       )
 
   pub fill-byte-events :
-      (c0 c1 b0 b1 n x : ℕ) → Sound l → pins ≤ 3 → l ≡ Fill c0 c1 b0 b1 n → x ≡ fillCount 8 q c0 c1 b0 b1 → x ≡ byteEvents (lineEvents pins l q)
+      (c0 c1 b0 b1 n x : ℕ) → Valid l → pins ≤ 3 → l ≡ Fill c0 c1 b0 b1 n → x ≡ fillCount 8 q c0 c1 b0 b1 → x ≡ byteEvents (lineEvents pins l q)
   fill-byte-events c0 c1 b0 b1 n x s hp e h =
-      let cells = sound-cells l s c0 c1 b0 b1 n e in
+      let cells = valid-fill l s c0 c1 b0 b1 n e in
       h
       ∙ sym (ap byteEvents (fill-told pins l q c0 c1 b0 b1 n e)
       ∙ fill-bytes pins q c0 c1 b0 b1 n hp (omega (arith, cells .byte)) (cells .columns) (cells .last-column) (cells .banks) (cells .last-bank))
 
-  pub set-byte-events : (f n x : ℕ) → Sound l → Tracked q → pins ≤ 3 → l ≡ Set f n → x ≡ setLength f → x * 2 + 1 ≡ byteEvents (lineEvents pins l q)
+  pub set-byte-events : (f n x : ℕ) → Valid l → Tracked q → pins ≤ 3 → l ≡ Set f n → x ≡ setLength f → x * 2 + 1 ≡ byteEvents (lineEvents pins l q)
   set-byte-events f n x s tracked hp e h =
       let t = setTo f n q in
       omega (

@@ -2,7 +2,7 @@
 ghost use mathlib.Core.Path.{_≡_};
 ghost use Prim.Native.Nat.{_+_, _≤_};
 ghost use lib.ListN.{length};
-ghost use Rattle.lists.specs.Spelling.{Sound};
+ghost use Rattle.lists.specs.Syntax.{Valid};
 ghost use Rattle.compiler.specs.Plain.{registersAfter};
 ghost use Rattle.compiler.specs.Stream.{lineEvents, byteEvents};
 ghost use Rattle.compiler.specs.Writes.{Wrote, Tracked};
@@ -30,7 +30,7 @@ pub fn after(line: Line, registers: Registers) -> Registers
 
 // How many events a line takes.
 pub fn events(line: Line, registers: Registers, pins: u8) -> usize
-    requires { ⌜ Sound line ⌝ }
+    requires { ⌜ Valid line ⌝ }
     ensures { λ r. ⌜ r ≡ length (lineEvents pins line registers) ⌝ }
 {
     match line {
@@ -54,7 +54,7 @@ pub fn events(line: Line, registers: Registers, pins: u8) -> usize
 
 // How many of them are bytes.
 pub fn bytes(line: Line, registers: Registers, pins: u8) -> usize
-    requires { ⌜ Sound line × Tracked registers × (pins ≤ 3) ⌝ }
+    requires { ⌜ Valid line × Tracked registers × (pins ≤ 3) ⌝ }
     ensures { λ r. ⌜ r ≡ byteEvents (lineEvents pins line registers) ⌝ }
 {
     match line {
@@ -78,7 +78,7 @@ pub fn bytes(line: Line, registers: Registers, pins: u8) -> usize
 
 // The events of a line.
 pub fn write(out: &mut [u16], at: usize, line: Line, registers: Registers, pins: u8) -> usize
-    requires { ⌜ Sound line × (at + length (lineEvents pins line registers) ≤ length (now out)) ⌝ }
+    requires { ⌜ Valid line × (at + length (lineEvents pins line registers) ≤ length (now out)) ⌝ }
     ensures { λ r. ⌜ Wrote (now (out .entry)) at (lineEvents pins line registers) (now (out .exit)) r ⌝ }
 {
     match line {

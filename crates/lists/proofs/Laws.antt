@@ -1,4 +1,4 @@
--- What is promised of a drawing list's lines, in one place: read this file first, then specs/Spelling.antt. The work stands in the files beside
+-- What is promised of a drawing list's lines, in one place: read this file first, then specs/Syntax.antt. The work stands in the files beside
 -- it; what holds of a whole text, place by place, is in Positions.antt.
 use mathlib.Core.Path.{_≡_, refl, sym, ap, _∙_}
 use mathlib.Core.List.{List}
@@ -8,87 +8,87 @@ use native.Mathlib.Omega.{arith}
 use Rattle.lists.specs.declared.Line.{Line}
 use Rattle.lists.specs.declared.Parsed.the-variants.{Good, Bad}
 use Rattle.lists.specs.Line.{lineOf}
-use Rattle.lists.specs.Spelling.{Saying, put, fill, set, Formed, Spelled, Says, Sound, Unspelled, OutOfRange, Unreadable, Within, Readable, meaning}
-use Rattle.lists.proofs.Verdicts.{Judged, good, wide, unread, judged, Outcome, unspelled, spelled, outcome, not-both, one-number}
+use Rattle.lists.specs.Syntax.{Syntax, put, fill, set, WellFormed, Parses, AcceptedAs, Valid, Malformed, OutOfRange, RowUnreadable, InRange, RowReadable, asLine}
+use Rattle.lists.proofs.Answers.{Answered, good, out, no-row, answered, Parsing, not-parsed, parsed, parsing, not-both, one-number}
 
--- a line is accepted as l exactly if it is the spelling of something within its limits that means l
-pub accepted : (p : List ℕ) (l : Line) → (lineOf p ≡ Good l) ↔ Says p l
-accepted p l = (there (outcome p), λ s. back s (judged p (s .line)))
+-- a line is accepted as l exactly if it parses as something within its limits that asks for l
+pub accepted : (p : List ℕ) (l : Line) → (lineOf p ≡ Good l) ↔ AcceptedAs p l
+accepted p l = (there (parsing p), λ s. back s (answered p (s .parses)))
   where
-    there : Outcome p → lineOf p ≡ Good l → Says p l
-    there (unspelled m e) h = absurd (not-both _ _ _ h e)
-    there (spelled s (good w r e)) h = record { line = s; within = w; readable = r; meant = cc }
-    there (spelled s (wide m e)) h = absurd (not-both _ _ _ h e)
-    there (spelled s (unread w m e)) h = absurd (not-both _ _ _ h e)
+    there : Parsing p → lineOf p ≡ Good l → AcceptedAs p l
+    there (not-parsed m e) h = absurd (not-both _ _ _ h e)
+    there (parsed s (good w r e)) h = record { parses = s; in-range = w; readable = r; line = cc }
+    there (parsed s (out m e)) h = absurd (not-both _ _ _ h e)
+    there (parsed s (no-row w m e)) h = absurd (not-both _ _ _ h e)
 
-    back : (s : Says p l) → Judged (s .line .saying) (lineOf p) → lineOf p ≡ Good l
-    back s (good w r e) = e ∙ ap Good (sym (s .meant))
-    back s (wide m e) = absurd (m (s .within))
-    back s (unread w m e) = absurd (m (s .readable))
+    back : (s : AcceptedAs p l) → Answered (s .parses .syntax) (lineOf p) → lineOf p ≡ Good l
+    back s (good w r e) = e ∙ ap Good (sym (s .line))
+    back s (out m e) = absurd (m (s .in-range))
+    back s (no-row w m e) = absurd (m (s .readable))
 
--- and then l is within its limits
-pub sound : (p : List ℕ) (l : Line) → lineOf p ≡ Good l → Sound l
-unfolding Formed Within Readable meaning Sound
-sound p l h = said-sound (accepted p l .0 h)
+-- and then l is valid
+pub valid : (p : List ℕ) (l : Line) → lineOf p ≡ Good l → Valid l
+unfolding WellFormed InRange RowReadable asLine Valid
+valid p l h = accepted-valid (accepted p l .0 h)
   where
-    means : (s : Saying) → Formed s → Within s → Readable s → Sound (meaning s)
-    means (put c b n) f w r = w
-    means (fill c0 c1 b0 b1 n) f w r = w
-    means (set k n) f w r = record { field = k; known = f .0; place = refl; value = w; readable = r }
+    asks : (s : Syntax) → WellFormed s → InRange s → RowReadable s → Valid (asLine s)
+    asks (put c b n) f w r = w
+    asks (fill c0 c1 b0 b1 n) f w r = w
+    asks (set k n) f w r = record { field = k; known = f .0; place = refl; value = w; readable = r }
 
-    said-sound : Says p l → Sound l
-    said-sound s = rw (s .meant) (means (s .line .saying) (s .line .formed) (s .within) (s .readable))
+    accepted-valid : AcceptedAs p l → Valid l
+    accepted-valid s = rw (s .line) (asks (s .parses .syntax) (s .parses .well-formed) (s .in-range) (s .readable))
 
--- 6 comes exactly if it spells nothing
-pub malformed : (p : List ℕ) → (lineOf p ≡ Bad 6) ↔ Unspelled p
-malformed p = (λ h. there (outcome p) h, back (outcome p))
+-- 6 comes exactly if it does not parse
+pub malformed : (p : List ℕ) → (lineOf p ≡ Bad 6) ↔ Malformed p
+malformed p = (λ h. there (parsing p) h, back (parsing p))
   where
-    there : Outcome p → lineOf p ≡ Bad 6 → Spelled p → ⊥
-    there (unspelled m e) h = m
-    there (spelled s (good w r e)) h = absurd (not-both _ _ _ e h)
-    there (spelled s (wide m e)) h = absurd (omega (arith, one-number (lineOf p) 7 6 e h))
-    there (spelled s (unread w m e)) h = absurd (omega (arith, one-number (lineOf p) 8 6 e h))
+    there : Parsing p → lineOf p ≡ Bad 6 → Parses p → ⊥
+    there (not-parsed m e) h = m
+    there (parsed s (good w r e)) h = absurd (not-both _ _ _ e h)
+    there (parsed s (out m e)) h = absurd (omega (arith, one-number (lineOf p) 7 6 e h))
+    there (parsed s (no-row w m e)) h = absurd (omega (arith, one-number (lineOf p) 8 6 e h))
 
-    back : Outcome p → (Spelled p → ⊥) → lineOf p ≡ Bad 6
-    back (unspelled m e) n = e
-    back (spelled s j) n = absurd (n s)
+    back : Parsing p → (Parses p → ⊥) → lineOf p ≡ Bad 6
+    back (not-parsed m e) n = e
+    back (parsed s j) n = absurd (n s)
 
--- 7 comes exactly if it spells something out of range
+-- 7 comes exactly if it parses as something out of range
 pub out-of-range : (p : List ℕ) → (lineOf p ≡ Bad 7) ↔ OutOfRange p
-out-of-range p = (there (outcome p), λ s. back (s .0) (s .1) (judged p (s .0)))
+out-of-range p = (there (parsing p), λ s. back (s .0) (s .1) (answered p (s .0)))
   where
-    there : Outcome p → lineOf p ≡ Bad 7 → OutOfRange p
-    there (unspelled m e) h = absurd (omega (arith, one-number (lineOf p) 6 7 e h))
-    there (spelled s (good w r e)) h = absurd (not-both _ _ _ e h)
-    there (spelled s (wide m e)) h = (s, m)
-    there (spelled s (unread w m e)) h = absurd (omega (arith, one-number (lineOf p) 8 7 e h))
+    there : Parsing p → lineOf p ≡ Bad 7 → OutOfRange p
+    there (not-parsed m e) h = absurd (omega (arith, one-number (lineOf p) 6 7 e h))
+    there (parsed s (good w r e)) h = absurd (not-both _ _ _ e h)
+    there (parsed s (out m e)) h = (s, m)
+    there (parsed s (no-row w m e)) h = absurd (omega (arith, one-number (lineOf p) 8 7 e h))
 
-    back : (s : Spelled p) → (Within (s .saying) → ⊥) → Judged (s .saying) (lineOf p) → lineOf p ≡ Bad 7
+    back : (s : Parses p) → (InRange (s .syntax) → ⊥) → Answered (s .syntax) (lineOf p) → lineOf p ≡ Bad 7
     back s n (good w r e) = absurd (n w)
-    back s n (wide m e) = e
-    back s n (unread w m e) = absurd (n w)
+    back s n (out m e) = e
+    back s n (no-row w m e) = absurd (n w)
 
--- 8 comes exactly if it spells something in range, for a row that can't be read
-pub unreadable : (p : List ℕ) → (lineOf p ≡ Bad 8) ↔ Unreadable p
-unreadable p = (there (outcome p), λ s. back (s .0) (s .1) (s .2) (judged p (s .0)))
+-- 8 comes exactly if it parses as something in range, for a row that can't be read
+pub unreadable : (p : List ℕ) → (lineOf p ≡ Bad 8) ↔ RowUnreadable p
+unreadable p = (there (parsing p), λ s. back (s .0) (s .1) (s .2) (answered p (s .0)))
   where
-    there : Outcome p → lineOf p ≡ Bad 8 → Unreadable p
-    there (unspelled m e) h = absurd (omega (arith, one-number (lineOf p) 6 8 e h))
-    there (spelled s (good w r e)) h = absurd (not-both _ _ _ e h)
-    there (spelled s (wide m e)) h = absurd (omega (arith, one-number (lineOf p) 7 8 e h))
-    there (spelled s (unread w m e)) h = (s, w, m)
+    there : Parsing p → lineOf p ≡ Bad 8 → RowUnreadable p
+    there (not-parsed m e) h = absurd (omega (arith, one-number (lineOf p) 6 8 e h))
+    there (parsed s (good w r e)) h = absurd (not-both _ _ _ e h)
+    there (parsed s (out m e)) h = absurd (omega (arith, one-number (lineOf p) 7 8 e h))
+    there (parsed s (no-row w m e)) h = (s, w, m)
 
-    back : (s : Spelled p) → Within (s .saying) → (Readable (s .saying) → ⊥) → Judged (s .saying) (lineOf p) → lineOf p ≡ Bad 8
+    back : (s : Parses p) → InRange (s .syntax) → (RowReadable (s .syntax) → ⊥) → Answered (s .syntax) (lineOf p) → lineOf p ≡ Bad 8
     back s w n (good v r e) = absurd (n r)
-    back s w n (wide m e) = absurd (m w)
-    back s w n (unread v m e) = e
+    back s w n (out m e) = absurd (m w)
+    back s w n (no-row v m e) = e
 
 -- and no other number comes
 pub numbers : (p : List ℕ) (k : ℕ) → lineOf p ≡ Bad k → (6 ≤ k) × (k ≤ 8)
-numbers p k h = go (outcome p)
+numbers p k h = go (parsing p)
   where
-    go : Outcome p → (6 ≤ k) × (k ≤ 8)
-    go (unspelled m e) = omega (arith, one-number (lineOf p) 6 k e h)
-    go (spelled s (good w r e)) = absurd (not-both _ _ _ e h)
-    go (spelled s (wide m e)) = omega (arith, one-number (lineOf p) 7 k e h)
-    go (spelled s (unread w m e)) = omega (arith, one-number (lineOf p) 8 k e h)
+    go : Parsing p → (6 ≤ k) × (k ≤ 8)
+    go (not-parsed m e) = omega (arith, one-number (lineOf p) 6 k e h)
+    go (parsed s (good w r e)) = absurd (not-both _ _ _ e h)
+    go (parsed s (out m e)) = omega (arith, one-number (lineOf p) 7 k e h)
+    go (parsed s (no-row w m e)) = omega (arith, one-number (lineOf p) 8 k e h)

@@ -1,8 +1,8 @@
 pub mod CodeWays
 pub mod Ranges
 pub mod Words
-pub mod Spellings
-pub mod Verdicts
+pub mod Parsing
+pub mod Answers
 pub mod Laws
 pub mod Positions
 pub mod Readings

@@ -18,8 +18,8 @@ use Rattle.lists.specs.declared.Parsed.{Parsed}
 use Rattle.lists.specs.declared.Parsed.the-variants.{Good, Bad}
 use Rattle.lists.specs.Line.{lineOf}
 use Rattle.lists.specs.Lists.{newline, newlines, faulty, lines, alsoLine, withLine, lastPiece, piecesFrom, readingFrom, readingOf, lineAt, nextLine, newlineBefore}
-use Rattle.lists.specs.Spelling.{Sound}
-use Rattle.lists.proofs.Laws.{sound}
+use Rattle.lists.specs.Syntax.{Valid}
+use Rattle.lists.proofs.Laws.{valid}
 
 -- the newline at `end`, or none
 module _ (text : List ℕ) (at end : ℕ) (e : end ≡ findOf text at newline) where
@@ -237,8 +237,8 @@ module _ (text : List ℕ) (at : ℕ) (l : at < length text) (x : LineAt) (e : x
   line-is : x ≡ record { parsed = lineOf (take (findOf text at newline - at) (drop at text)); next = findOf text at newline + 1 }
   line-is = e ∙ sym (line-there text at (findOf text at newline) refl line-ended _ refl)
 
-  pub line-sound : Sound y
-  line-sound = sound (take (findOf text at newline - at) (drop at text)) y (sym (ap (λ (z : LineAt). z .parsed) line-is) ∙ q)
+  pub line-valid : Valid y
+  line-valid = valid (take (findOf text at newline - at) (drop at text)) y (sym (ap (λ (z : LineAt). z .parsed) line-is) ∙ q)
 
   pub newlines-left : newlines (drop at text) ≡ 1 + newlines (drop (x .next) text)
   newlines-left =

@@ -12,7 +12,7 @@ use Rattle.text.proofs.Numbers.{and-both}
 use Rattle.lists.specs.declared.Line.the-variants.{Fill, Set}
 use Rattle.lists.specs.declared.Parsed.the-variants.{Good, Bad}
 use Rattle.lists.specs.Line.{fillFits, fillWithin, setWithin}
-use Rattle.lists.specs.Spelling.{Cells}
+use Rattle.lists.specs.Syntax.{ValidFill}
 
 -- six bits, or a bank before 16
 narrow : (b1 n : ℕ) → ltb b1 16 || leb n 63 ≡ true → b1 ≡ 16 → n ≤ 63
@@ -30,7 +30,7 @@ narrow-test b1 n l h = go (decLt b1 16)
     go (no m) = rw (le-ltb b1 16 (omega arith), le-leb n 63 (h (omega arith)))
 
 module _ (c0 c1 b0 b1 n : ℕ) where
-  pub fit-cells : fillFits c0 c1 b0 b1 n ≡ true → Cells c0 c1 b0 b1 n
+  pub fit-cells : fillFits c0 c1 b0 b1 n ≡ true → ValidFill c0 c1 b0 b1 n
   fit-cells h =
       let t7 = and-both (leb c0 100 && leb c1 100 && leb b0 16 && leb b1 16 && leb c0 c1 && leb b0 b1 && leb n 255) (ltb b1 16 || leb n 63) h in
       let t6 = and-both (leb c0 100 && leb c1 100 && leb b0 16 && leb b1 16 && leb c0 c1 && leb b0 b1) (leb n 255) (t7 .0) in
@@ -48,7 +48,7 @@ module _ (c0 c1 b0 b1 n : ℕ) where
         six-bits = narrow b1 n (t7 .1);
       }
 
-  pub cells-fit : Cells c0 c1 b0 b1 n → fillFits c0 c1 b0 b1 n ≡ true
+  pub cells-fit : ValidFill c0 c1 b0 b1 n → fillFits c0 c1 b0 b1 n ≡ true
   cells-fit h =
       rw (
         le-leb c0 100 (omega arith),
@@ -63,8 +63,8 @@ module _ (c0 c1 b0 b1 n : ℕ) where
 
   -- the two ways out of the test, x being what it answered
   module _ (x : Bool) (e : x ≡ fillFits c0 c1 b0 b1 n) where
-    pub told-cells : x ≡ true → Cells c0 c1 b0 b1 n
-    told-cells t = fit-cells (sym e ∙ t)
+    pub tested-cells : x ≡ true → ValidFill c0 c1 b0 b1 n
+    tested-cells t = fit-cells (sym e ∙ t)
 
     pub filled : x ≡ true → Good (Fill c0 c1 b0 b1 n) ≡ fillWithin c0 c1 b0 b1 n
     filled t = rw (sym e ∙ t)

@@ -11,8 +11,8 @@ use Rattle.lists.specs.declared.Parsed.{Parsed}
 use Rattle.lists.specs.declared.Parsed.the-variants.{Good, Bad}
 use Rattle.lists.specs.Line.{lineOf}
 use Rattle.lists.specs.Lists.{newline, newlines, Reading, faulty, lines, withLine, lastPiece, piecesFrom, readingFrom}
-use Rattle.lists.specs.Spelling.{AllSound}
-use Rattle.lists.proofs.Laws.{sound, numbers}
+use Rattle.lists.specs.Syntax.{AllValid}
+use Rattle.lists.proofs.Laws.{valid, numbers}
 
 -- readings are told apart
 pub not-lines : (k n : ℕ) (ls : List Line) → faulty k n ≡ lines ls → ⊥
@@ -30,21 +30,21 @@ same-line j m k n e = cc
 -- what a reading of k pieces that starts with line n promises
 data Read (k n : ℕ) : Reading → Type 0 where
   fault : (j m : ℕ) → (6 ≤ j) × (j ≤ 8) → n ≤ m → m < n + k → Read k n (faulty j m)
-  list : (ls : List Line) → AllSound ls → length ls + 1 ≡ k → Read k n (lines ls)
+  list : (ls : List Line) → AllValid ls → length ls + 1 ≡ k → Read k n (lines ls)
 
 read-last : (n : ℕ) (p : List ℕ) → Read 1 n (lastPiece n p)
-unfolding AllSound
+unfolding AllValid
 read-last n [] = list [] tt (omega arith)
 read-last n (x ∷ xs) = fault 6 n (omega arith) (omega arith) (omega arith)
 
 -- a line in front of k pieces
 read-more : (k n : ℕ) (p : List ℕ) (rest : Reading) → Read k (n + 1) rest → Read (suc k) n (withLine (lineOf p) n rest)
-unfolding AllSound
+unfolding AllValid
 read-more k n p rest r = go (lineOf p) refl rest r
   where
     go : (x : Parsed) → lineOf p ≡ x → (rest : Reading) → Read k (n + 1) rest → Read (suc k) n (withLine x n rest)
     go (Good l) e rest (fault j m b lo hi) = fault j m b (omega arith) (omega arith)
-    go (Good l) e rest (list ls s c) = list (l ∷ ls) (sound p l e, s) (omega arith)
+    go (Good l) e rest (list ls s c) = list (l ∷ ls) (valid p l e, s) (omega arith)
     go (Bad j) e rest r = fault j n (numbers p j e) (omega arith) (omega arith)
 
 read-pieces : (n : ℕ) (ps : List (List ℕ)) → 0 < length ps → Read (length ps) n (piecesFrom n ps)
@@ -63,7 +63,7 @@ read-text n text =
 pub record Accepted (text : List ℕ) (ls : List Line) : Type 0 where
   -- one line for each newline
   pub counted : length ls ≡ newlines text
-  pub within : AllSound ls
+  pub within : AllValid ls
 
 pub record Refused (text : List ℕ) (n k line : ℕ) : Type 0 where
   pub least : 6 ≤ k

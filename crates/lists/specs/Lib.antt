@@ -1,4 +1,4 @@
 pub mod Fields
 pub mod Line
-pub mod Spelling
+pub mod Syntax
 pub mod Lists

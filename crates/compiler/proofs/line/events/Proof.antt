@@ -1,5 +1,5 @@
 use native.Mathlib.Omega.{arith}
-use Rattle.compiler.proofs.Lines.{sound-cells, fill-events, set-events}
+use Rattle.compiler.proofs.Lines.{valid-fill, fill-events, set-events}
 use Rattle.compiler.proofs.Settings.{set-length-bound}
 use borrow.Author.Needs.{needs}
 use Rattle.compiler.proofs.line.events.Statement.{statement}
@@ -10,7 +10,7 @@ enum-known-line c = search needs
 
 fill-count-requires : tie.Need-fill-count-requires
 fill-count-requires c κs =
-    let cells = sound-cells _ (c .before .before .before .pre) _ _ _ _ _ (c .before .line .given .1) in
+    let cells = valid-fill _ (c .before .before .before .pre) _ _ _ _ _ (c .before .line .given .1) in
     (cells .columns, cells .last-column, cells .banks, cells .last-bank, omega arith)
 
 enum-known-line-2 : tie.Need-enum-known-line-2

@@ -1,7 +1,7 @@
 use mathlib.Core.Path.{ap}
 use native.Mathlib.Omega.{arith}
 use lib.ListN.{length}
-use Rattle.compiler.proofs.Lines.{sound-cells, fill-told, set-room, fill-line-wrote, set-line-wrote}
+use Rattle.compiler.proofs.Lines.{valid-fill, fill-told, set-room, fill-line-wrote, set-line-wrote}
 use borrow.Author.Needs.{needs}
 use Rattle.compiler.proofs.line.write.Statement.{statement}
 use Rattle.compiler.proofs.line.write.Tie as tie
@@ -13,7 +13,7 @@ fill-requires : tie.Need-fill-requires
 fill-requires c κs =
     let e = c .before .before .line .given .1 in
     let start = c .before .before .before .before .before in
-    let cells = sound-cells _ (start .pre .0) _ _ _ _ _ e in
+    let cells = valid-fill _ (start .pre .0) _ _ _ _ _ e in
     (cells .columns, cells .last-column, cells .banks, cells .last-bank, omega (arith, start .pre .1, ap length (fill-told (start .args .pins) _ (start .args .registers) _ _ _ _ _ e)))
 
 enum-known-line-2 : tie.Need-enum-known-line-2

@@ -1,7 +1,7 @@
 use native.Mathlib.Omega.{arith}
 use Prim.Native.Nat.{_-_}
 use lib.ListN.{length}
-use Rattle.lists.proofs.Positions.{reading-next, line-sound}
+use Rattle.lists.proofs.Positions.{reading-next, line-valid}
 use Rattle.compiler.proofs.CodeWays.{Measuring, measuring-start, measuring-end, measuring-fault, measuring-room, measuring-byte-room, measuring-turn}
 use borrow.Author.Needs.{needs}
 use Rattle.compiler.proofs.measure.measure.Statement.{statement}
@@ -30,7 +30,7 @@ enum-known-parsed-2 : tie.Need-enum-known-parsed-2 Inv-loop μ-loop
 enum-known-parsed-2 c = search needs
 
 events-requires : tie.Need-events-requires Inv-loop μ-loop
-events-requires c κs = line-sound _ _ (c .before .before .before .before .loop-test .taken) _ (c .before .before .before .line-at .ensures) _ (c .before .parsed2 .given .1)
+events-requires c κs = line-valid _ _ (c .before .before .before .before .loop-test .taken) _ (c .before .before .before .line-at .ensures) _ (c .before .parsed2 .given .1)
 
 add-length : tie.Need-add-length Inv-loop μ-loop
 add-length c =
@@ -41,7 +41,7 @@ add-length c =
 
 bytes-requires : tie.Need-bytes-requires Inv-loop μ-loop
 bytes-requires c κs = (
-  line-sound _ _ (c .before .before .before .before .before .loop-test .taken) _ (c .before .before .before .before .line-at .ensures) _ (c .before .before .parsed2 .given .1),
+  line-valid _ _ (c .before .before .before .before .before .loop-test .taken) _ (c .before .before .before .before .line-at .ensures) _ (c .before .before .parsed2 .given .1),
   c .before .before .before .before .before .before .loop .inv .tracked,
   c .before .before .before .before .before .before .loop .inv .pins-fit,
 )

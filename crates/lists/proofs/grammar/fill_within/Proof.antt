@@ -1,5 +1,5 @@
-use Rattle.lists.specs.Spelling.{Cells}
-use Rattle.lists.proofs.Ranges.{told-cells, filled, not-filled}
+use Rattle.lists.specs.Syntax.{ValidFill}
+use Rattle.lists.proofs.Ranges.{tested-cells, filled, not-filled}
 use native.Mathlib.Omega.{arith}
 use borrow.Author.Needs.{needs}
 use Rattle.lists.proofs.grammar.fill_within.Statement.{statement}
@@ -10,8 +10,8 @@ fill-fits-requires c κs = search needs
 
 within :
     (c : tie.Then1)
-    → Cells (c .before .before .args .c0) (c .before .before .args .c1) (c .before .before .args .b0) (c .before .before .args .b1) (c .before .before .args .n)
-within c = told-cells _ _ _ _ _ _ (c .before .fill-fits .ensures) (c .if1 .taken)
+    → ValidFill (c .before .before .args .c0) (c .before .before .args .c1) (c .before .before .args .b0) (c .before .before .args .b1) (c .before .before .args .n)
+within c = tested-cells _ _ _ _ _ _ (c .before .fill-fits .ensures) (c .if1 .taken)
 
 cast-t7 : tie.Need-cast-t7
 cast-t7 c = omega (arith, within c)

@@ -1,4 +1,5 @@
--- Spelling and reading are each other's inverse: a spelling is read as what it says, and what is not malformed is a spelling.
+-- Printing and parsing are each other's inverse: what is printed of something well formed is parsed as that, and what is not malformed is a
+-- print of something well formed.
 use mathlib.Core.Path.{_≡_, refl, sym, ap, _∙_}
 use mathlib.Core.Bool.{Bool, true, false, cond, _&&_}
 use mathlib.Core.List.{List, [], _∷_}
@@ -22,15 +23,15 @@ use Rattle.lists.specs.declared.Parsed.{Parsed}
 use Rattle.lists.specs.declared.Parsed.the-variants.{Bad}
 use Rattle.lists.specs.Fields.{fieldNames, fieldPlaces}
 use Rattle.lists.specs.Line.{tab, pieceAt, numberAt, fillWithin, setWithin, fillOf, putOf, setOf, ofPieces, lineOf}
-use Rattle.lists.specs.Spelling.{Saying, put, fill, set, spell, Formed, Spelled}
+use Rattle.lists.specs.Syntax.{Syntax, put, fill, set, print, WellFormed, Parses}
 
--- what is left to say of a spelling: 7, 8 or what it means
-abbrev pub verdict : Saying → Parsed
-verdict (put c b n) = fillWithin c c b b n
-verdict (fill c0 c1 b0 b1 n) = fillWithin c0 c1 b0 b1 n
-verdict (set k n) = setWithin (getD fieldPlaces k 0) n
+-- the answer to what is well formed: 7, 8 or the line
+abbrev pub answerTo : Syntax → Parsed
+answerTo (put c b n) = fillWithin c c b b n
+answerTo (fill c0 c1 b0 b1 n) = fillWithin c0 c1 b0 b1 n
+answerTo (set k n) = setWithin (getD fieldPlaces k 0) n
 
--- ---- from a saying to its line
+-- ---- from the syntax to the line
 
 -- every name is found at its own place, and holds no tab
 name-test : ℕ → Bool
@@ -58,23 +59,23 @@ of-pieces : (p : List ℕ) (ps : List (List ℕ)) → split tab p ≡ ps → lin
 unfolding lineOf
 of-pieces p ps e = ap ofPieces e
 
-pub spelled-line : (s : Saying) → Formed s → lineOf (spell s) ≡ verdict s
-unfolding spell Formed
-spelled-line (put c b n) f =
+pub print-parsed : (s : Syntax) → WellFormed s → lineOf (print s) ≡ answerTo s
+unfolding print WellFormed
+print-parsed (put c b n) f =
     of-pieces _ _
     (split-join tab (bytes "put") (decimal c ∷ decimal b ∷ decimal n ∷ []) (refl, (no-tab c, (no-tab b, (no-tab n, tt)))))
     ∙ rw (read-back c (f .0), read-back b (f .1), read-back n (f .2))
-spelled-line (fill c0 c1 b0 b1 n) f =
+print-parsed (fill c0 c1 b0 b1 n) f =
     of-pieces _ _
     (split-join tab (bytes "fill") (decimal c0 ∷ decimal c1 ∷ decimal b0 ∷ decimal b1 ∷ decimal n ∷ [])
     (refl, (no-tab c0, (no-tab c1, (no-tab b0, (no-tab b1, (no-tab n, tt)))))))
     ∙ rw (read-back c0 (f .0), read-back c1 (f .1), read-back b0 (f .2), read-back b1 (f .3), read-back n (f .4))
-spelled-line (set k n) f =
+print-parsed (set k n) f =
     of-pieces _ _
     (split-join tab (bytes "set") (getD fieldNames k [] ∷ decimal n ∷ []) (refl, (name-free k (f .0), (no-tab n, tt))))
     ∙ rw (read-back n (f .1), name-place k (f .0), lt-ltb k 25 (f .0))
 
--- ---- from a line to what it says
+-- ---- from the line to the syntax
 
 -- k pieces are these k pieces
 abbrev from : ℕ → ℕ → List (List ℕ) → List (List ℕ)
@@ -106,9 +107,9 @@ read q = go (numberOf q) refl
     go Malformed e = badly e
     go (Value n) e = well n e
 
--- an answer of 6, or a spelling
+-- an answer of 6, or a line that parses
 abbrev Answer : List ℕ → Parsed → Type 0
-Answer p x = (x ≡ Bad 6) ⊎ Spelled p
+Answer p x = (x ≡ Bad 6) ⊎ Parses p
 
 module _ (p : List ℕ) where
   abbrev ps : List (List ℕ)
@@ -117,22 +118,22 @@ module _ (p : List ℕ) where
   put-numbers :
       length ps ≡ 4 → pieceAt ps 0 ≡ bytes "put" → Read (pieceAt ps 1) → Read (pieceAt ps 2) → Read (pieceAt ps 3)
       → Answer p (putOf (numberAt ps 1) (numberAt ps 2) (numberAt ps 3))
-  unfolding spell Formed
+  unfolding print WellFormed
   put-numbers e w (badly ec) b n = inl (rw ec)
   put-numbers e w (well c ec) (badly eb) n = inl (rw (ec, eb))
   put-numbers e w (well c ec) (well b eb) (badly en) = inl (rw (ec, eb, en))
   put-numbers e w (well c ec) (well b eb) (well n en) =
       inr
       (record {
-        saying = put c b n;
-        formed = (printed _ c ec .small, printed _ b eb .small, printed _ n en .small);
-        spelled = put-back p 4 e ∙ rw (w, printed _ c ec .spelt, printed _ b eb .spelt, printed _ n en .spelt);
+        syntax = put c b n;
+        well-formed = (printed _ c ec .small, printed _ b eb .small, printed _ n en .small);
+        printed = put-back p 4 e ∙ rw (w, printed _ c ec .spelt, printed _ b eb .spelt, printed _ n en .spelt);
       })
 
   fill-numbers :
       length ps ≡ 6 → pieceAt ps 0 ≡ bytes "fill" → Read (pieceAt ps 1) → Read (pieceAt ps 2) → Read (pieceAt ps 3) → Read (pieceAt ps 4) → Read (pieceAt ps 5)
       → Answer p (fillOf (numberAt ps 1) (numberAt ps 2) (numberAt ps 3) (numberAt ps 4) (numberAt ps 5))
-  unfolding spell Formed
+  unfolding print WellFormed
   fill-numbers e w (badly e0) r1 r2 r3 r4 = inl (rw e0)
   fill-numbers e w (well c0 e0) (badly e1) r2 r3 r4 = inl (rw (e0, e1))
   fill-numbers e w (well c0 e0) (well c1 e1) (badly e2) r3 r4 = inl (rw (e0, e1, e2))
@@ -141,9 +142,9 @@ module _ (p : List ℕ) where
   fill-numbers e w (well c0 e0) (well c1 e1) (well b0 e2) (well b1 e3) (well n e4) =
       inr
       (record {
-        saying = fill c0 c1 b0 b1 n;
-        formed = (printed _ c0 e0 .small, printed _ c1 e1 .small, printed _ b0 e2 .small, printed _ b1 e3 .small, printed _ n e4 .small);
-        spelled =
+        syntax = fill c0 c1 b0 b1 n;
+        well-formed = (printed _ c0 e0 .small, printed _ c1 e1 .small, printed _ b0 e2 .small, printed _ b1 e3 .small, printed _ n e4 .small);
+        printed =
             put-back p 6 e
             ∙ rw (w, printed _ c0 e0 .spelt, printed _ c1 e1 .spelt, printed _ b0 e2 .spelt, printed _ b1 e3 .spelt, printed _ n e4 .spelt);
       })
@@ -151,15 +152,15 @@ module _ (p : List ℕ) where
   set-numbers :
       length ps ≡ 3 → pieceAt ps 0 ≡ bytes "set" → Dec (indexOf (pieceAt ps 1) fieldNames < 25) → Read (pieceAt ps 2)
       → Answer p (setOf (indexOf (pieceAt ps 1) fieldNames) (numberAt ps 2))
-  unfolding spell Formed
+  unfolding print WellFormed
   set-numbers e w d (badly en) = inl (rw en)
   set-numbers e w (no m) (well n en) = inl (rw (en, le-ltb (indexOf (pieceAt ps 1) fieldNames) 25 (omega arith)))
   set-numbers e w (yes l) (well n en) =
       inr
       (record {
-        saying = set (indexOf (pieceAt ps 1) fieldNames) n;
-        formed = (l, printed _ n en .small);
-        spelled = put-back p 3 e ∙ rw (w, index-found (pieceAt ps 1) fieldNames l, printed _ n en .spelt);
+        syntax = set (indexOf (pieceAt ps 1) fieldNames) n;
+        well-formed = (l, printed _ n en .small);
+        printed = put-back p 3 e ∙ rw (w, index-found (pieceAt ps 1) fieldNames l, printed _ n en .spelt);
       })
 
   -- the number of pieces that a word asks for
@@ -178,9 +179,9 @@ module _ (p : List ℕ) where
       go true e = f (same-equal (pieceAt ps 0) w e)
       go false e = g
 
-  pub answered : Answer p (lineOf p)
+  pub parses-or-6 : Answer p (lineOf p)
   unfolding lineOf
-  answered =
+  parses-or-6 =
       of-word (bytes "put") _ _ (λ w. of-length 4 _ (λ e. put-numbers e w (read (pieceAt ps 1)) (read (pieceAt ps 2)) (read (pieceAt ps 3))))
       (of-word (bytes "fill") _ _
       (λ w. of-length 6 _ (λ e. fill-numbers e w (read (pieceAt ps 1)) (read (pieceAt ps 2)) (read (pieceAt ps 3)) (read (pieceAt ps 4)) (read (pieceAt ps 5))))
