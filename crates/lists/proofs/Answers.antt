@@ -13,7 +13,6 @@ use Rattle.lists.specs.declared.Line.{Line}
 use Rattle.lists.specs.declared.Line.the-variants.{Fill, Set}
 use Rattle.lists.specs.declared.Parsed.{Parsed}
 use Rattle.lists.specs.declared.Parsed.the-variants.{Good, Bad}
-use Rattle.lists.specs.Fields.{fieldPlaces}
 use Rattle.lists.specs.Line.{lineOf, fillFits, fillWithin, setWithin}
 use Rattle.lists.specs.Syntax.{Syntax, put, fill, set, asLine, InRange, RowReadable, ValidFill, Parses}
 use Rattle.lists.proofs.Ranges.{fit-cells, cells-fit}
@@ -54,7 +53,7 @@ answer-is : (s : Syntax) → Answered s (answerTo s)
 unfolding InRange RowReadable asLine
 answer-is (put c b n) = elim (fillable c c b b n) [ inl w ↦ good (w .0) tt (w .1) | inr m ↦ out (m .0) (m .1) ]
 answer-is (fill c0 c1 b0 b1 n) = elim (fillable c0 c1 b0 b1 n) [ inl w ↦ good (w .0) tt (w .1) | inr m ↦ out (m .0) (m .1) ]
-answer-is (set k n) = elim (settable (getD fieldPlaces k 0) n) [ inl w ↦ good (w .0) refl (w .1) | inr m ↦ out (m .0) (m .1) ]
+answer-is (set f n) = elim (settable f n) [ inl w ↦ good (w .0) refl (w .1) | inr m ↦ out (m .0) (m .1) ]
 
 -- a line that parses gets the answer to its syntax
 pub answered : (p : List ℕ) (l : Parses p) → Answered (l .syntax) (lineOf p)

@@ -34,7 +34,7 @@ valid p l h = accepted-valid (accepted p l .0 h)
     asks : (s : Syntax) → WellFormed s → InRange s → RowReadable s → Valid (asLine s)
     asks (put c b n) f w r = w
     asks (fill c0 c1 b0 b1 n) f w r = w
-    asks (set k n) f w r = record { field = k; known = f .0; place = refl; value = w; readable = r }
+    asks (set k n) f w r = record { field = f .0; value = w; readable = r }
 
     accepted-valid : AcceptedAs p l → Valid l
     accepted-valid s = rw (s .line) (asks (s .parses .syntax) (s .parses .well-formed) (s .in-range) (s .readable))

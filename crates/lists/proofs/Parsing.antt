@@ -10,6 +10,7 @@ use native.Mathlib.Omega.{arith}
 use borrow.Author.Tests.{eq-eqb, ne-eqb, lt-ltb, le-ltb}
 use lib.Dec.{T, eqb, eqb→eq}
 use lib.ListN.{length, getD}
+use Rattle.registers.specs.Record.{names}
 use Rattle.registers.proofs.Below.{allBelow, below-at, and-left, and-right}
 use Rattle.text.specs.declared.Number.{Number}
 use Rattle.text.specs.declared.Number.the-variants.{Value, Malformed}
@@ -21,36 +22,36 @@ use Rattle.text.proofs.Printing.{printed, read-back, decimal-free}
 use Rattle.text.proofs.Splitting.{index-found}
 use Rattle.lists.specs.declared.Parsed.{Parsed}
 use Rattle.lists.specs.declared.Parsed.the-variants.{Bad}
-use Rattle.lists.specs.Fields.{fieldNames, fieldPlaces}
-use Rattle.lists.specs.Line.{tab, pieceAt, numberAt, fillWithin, setWithin, fillOf, putOf, setOf, ofPieces, lineOf}
+use Rattle.lists.specs.Line.{tab, isField, pieceAt, numberAt, fillWithin, setWithin, fillOf, putOf, setOf, ofPieces, lineOf}
+use Rattle.lists.proofs.Ranges.{field-tested, field-test}
 use Rattle.lists.specs.Syntax.{Syntax, put, fill, set, print, WellFormed, Parses}
 
 -- the answer to what is well formed: 7, 8 or the line
 abbrev pub answerTo : Syntax → Parsed
 answerTo (put c b n) = fillWithin c c b b n
 answerTo (fill c0 c1 b0 b1 n) = fillWithin c0 c1 b0 b1 n
-answerTo (set k n) = setWithin (getD fieldPlaces k 0) n
+answerTo (set f n) = setWithin f n
 
 -- ---- from the syntax to the line
 
 -- every name is found at its own place, and holds no tab
 name-test : ℕ → Bool
-name-test k = eqb (indexOf (getD fieldNames k []) fieldNames) k && eqb (countOf tab (getD fieldNames k [])) 0
+name-test k = eqb (indexOf (getD names k []) names) k && eqb (countOf tab (getD names k [])) 0
 
-names-test : T (allBelow 25 name-test)
+names-test : T (allBelow 29 name-test)
 unfolding name-test
 names-test = tt
 
-module _ (k : ℕ) (h : k < 25) where
-  tested : T (eqb (indexOf (getD fieldNames k []) fieldNames) k && eqb (countOf tab (getD fieldNames k [])) 0)
+module _ (k : ℕ) (h : k < 29) where
+  tested : T (eqb (indexOf (getD names k []) names) k && eqb (countOf tab (getD names k [])) 0)
   unfolding name-test
-  tested = below-at 25 name-test names-test k h
+  tested = below-at 29 name-test names-test k h
 
-  name-place : indexOf (getD fieldNames k []) fieldNames ≡ k
-  name-place = eqb→eq _ _ (and-left (eqb (indexOf (getD fieldNames k []) fieldNames) k) (eqb (countOf tab (getD fieldNames k [])) 0) tested)
+  name-place : indexOf (getD names k []) names ≡ k
+  name-place = eqb→eq _ _ (and-left (eqb (indexOf (getD names k []) names) k) (eqb (countOf tab (getD names k [])) 0) tested)
 
-  name-free : countOf tab (getD fieldNames k []) ≡ 0
-  name-free = eqb→eq _ _ (and-right (eqb (indexOf (getD fieldNames k []) fieldNames) k) (eqb (countOf tab (getD fieldNames k [])) 0) tested)
+  name-free : countOf tab (getD names k []) ≡ 0
+  name-free = eqb→eq _ _ (and-right (eqb (indexOf (getD names k []) names) k) (eqb (countOf tab (getD names k [])) 0) tested)
 
 no-tab : (n : ℕ) → countOf tab (decimal n) ≡ 0
 no-tab n = decimal-free tab n (omega arith)
@@ -72,8 +73,8 @@ print-parsed (fill c0 c1 b0 b1 n) f =
     ∙ rw (read-back c0 (f .0), read-back c1 (f .1), read-back b0 (f .2), read-back b1 (f .3), read-back n (f .4))
 print-parsed (set k n) f =
     of-pieces _ _
-    (split-join tab (bytes "set") (getD fieldNames k [] ∷ decimal n ∷ []) (refl, (name-free k (f .0), (no-tab n, tt))))
-    ∙ rw (read-back n (f .1), name-place k (f .0), lt-ltb k 25 (f .0))
+    (split-join tab (bytes "set") (getD names k [] ∷ decimal n ∷ []) (refl, (name-free k (f .0 .place), (no-tab n, tt))))
+    ∙ rw (read-back n (f .1), name-place k (f .0 .place), field-test k (f .0))
 
 -- ---- from the line to the syntax
 
@@ -149,18 +150,23 @@ module _ (p : List ℕ) where
             ∙ rw (w, printed _ c0 e0 .spelt, printed _ c1 e1 .spelt, printed _ b0 e2 .spelt, printed _ b1 e3 .spelt, printed _ n e4 .spelt);
       })
 
+  -- the place of the register that the line names
+  abbrev named : ℕ
+  named = indexOf (pieceAt ps 1) names
+
   set-numbers :
-      length ps ≡ 3 → pieceAt ps 0 ≡ bytes "set" → Dec (indexOf (pieceAt ps 1) fieldNames < 25) → Read (pieceAt ps 2)
-      → Answer p (setOf (indexOf (pieceAt ps 1) fieldNames) (numberAt ps 2))
+      length ps ≡ 3 → pieceAt ps 0 ≡ bytes "set" → (t : Bool) → isField named ≡ t → Read (pieceAt ps 2)
+      → Answer p (setOf named (numberAt ps 2))
   unfolding print WellFormed
-  set-numbers e w d (badly en) = inl (rw en)
-  set-numbers e w (no m) (well n en) = inl (rw (en, le-ltb (indexOf (pieceAt ps 1) fieldNames) 25 (omega arith)))
-  set-numbers e w (yes l) (well n en) =
+  set-numbers e w t et (badly en) = inl (rw en)
+  set-numbers e w false et (well n en) = inl (rw (en, et))
+  set-numbers e w true et (well n en) =
+      let field = field-tested named et in
       inr
       (record {
-        syntax = set (indexOf (pieceAt ps 1) fieldNames) n;
-        well-formed = (l, printed _ n en .small);
-        printed = put-back p 3 e ∙ rw (w, index-found (pieceAt ps 1) fieldNames l, printed _ n en .spelt);
+        syntax = set named n;
+        well-formed = (field, printed _ n en .small);
+        printed = put-back p 3 e ∙ rw (w, index-found (pieceAt ps 1) names (field .place), printed _ n en .spelt);
       })
 
   -- the number of pieces that a word asks for
@@ -186,5 +192,5 @@ module _ (p : List ℕ) where
       (of-word (bytes "fill") _ _
       (λ w. of-length 6 _ (λ e. fill-numbers e w (read (pieceAt ps 1)) (read (pieceAt ps 2)) (read (pieceAt ps 3)) (read (pieceAt ps 4)) (read (pieceAt ps 5))))
       (of-word (bytes "set") _ _
-      (λ w. of-length 3 _ (λ e. set-numbers e w (decLt (indexOf (pieceAt ps 1) fieldNames) 25) (read (pieceAt ps 2))))
+      (λ w. of-length 3 _ (λ e. set-numbers e w (isField named) refl (read (pieceAt ps 2))))
       (inl refl)))

@@ -1,18 +1,19 @@
 -- The limits of a line, as tests and as facts.
-use mathlib.Core.Path.{_≡_, refl, sym, _∙_}
-use mathlib.Core.Bool.{Bool, true, false, _&&_, _||_}
+use mathlib.Core.Path.{_≡_, refl, sym, subst, _∙_}
+use mathlib.Core.Bool.{Bool, true, false, not, _&&_, _||_}
 use Prim.Native.Nat.{ℕ, _≤_, _<_}
 use native.Mathlib.Decide.{decLt}
 use native.Mathlib.Omega.{arith}
-use borrow.Author.Tests.{leb-true, ltb-true, le-leb, lt-leb, lt-ltb, le-ltb}
-use lib.Dec.{leb, ltb}
+use borrow.Author.Tests.{eq-eqb, ne-eqb, leb-true, ltb-true, le-leb, lt-leb, lt-ltb, le-ltb}
+use lib.Dec.{eqb, leb, ltb}
 use lib.ListN.{getD}
+use Rattle.registers.specs.Places.{H, X, Y, GR}
 use Rattle.registers.specs.Record.{limits}
 use Rattle.text.proofs.Numbers.{and-both}
 use Rattle.lists.specs.declared.Line.the-variants.{Fill, Set}
 use Rattle.lists.specs.declared.Parsed.the-variants.{Good, Bad}
-use Rattle.lists.specs.Line.{fillFits, fillWithin, setWithin}
-use Rattle.lists.specs.Syntax.{ValidFill}
+use Rattle.lists.specs.Line.{isField, fillFits, fillWithin, setWithin}
+use Rattle.lists.specs.Syntax.{Field, ValidFill}
 
 -- six bits, or a bank before 16
 narrow : (b1 n : ℕ) → ltb b1 16 || leb n 63 ≡ true → b1 ≡ 16 → n ≤ 63
@@ -71,6 +72,31 @@ module _ (c0 c1 b0 b1 n : ℕ) where
 
     pub not-filled : x ≡ false → Bad 7 ≡ fillWithin c0 c1 b0 b1 n
     not-filled t = rw (sym e ∙ t)
+
+-- a register that a `set` line can name
+not-equal : (f g : ℕ) → not (eqb f g) ≡ true → f ≡ g → ⊥
+not-equal f g t e =
+    let q : not true ≡ true = subst (λ (b : Bool). not b ≡ true) (eq-eqb f g e) t in
+    let z : _≡_ {A = ℕ} 0 1 = cc in
+    omega arith
+
+module _ (f : ℕ) where
+  pub field-tested : isField f ≡ true → Field f
+  field-tested h =
+      let t3 = and-both (ltb f 29 && not (eqb f H) && not (eqb f X) && not (eqb f Y)) (not (eqb f GR)) h in
+      let t2 = and-both (ltb f 29 && not (eqb f H) && not (eqb f X)) (not (eqb f Y)) (t3 .0) in
+      let t1 = and-both (ltb f 29 && not (eqb f H)) (not (eqb f X)) (t2 .0) in
+      let t0 = and-both (ltb f 29) (not (eqb f H)) (t1 .0) in
+      record {
+        place = ltb-true f 29 (t0 .0);
+        not-h = not-equal f H (t0 .1);
+        not-x = not-equal f X (t1 .1);
+        not-y = not-equal f Y (t2 .1);
+        not-gr = not-equal f GR (t3 .1);
+      }
+
+  pub field-test : Field f → isField f ≡ true
+  field-test h = rw (lt-ltb f 29 (h .place), ne-eqb f H (h .not-h), ne-eqb f X (h .not-x), ne-eqb f Y (h .not-y), ne-eqb f GR (h .not-gr))
 
 -- a value against the limit of its field; no row is listed
 module _ (f n l : ℕ) (e : l ≡ getD limits f 0) where

@@ -3,15 +3,17 @@ use mathlib.Core.Path.{_≡_, sym, _∙_}
 use mathlib.Core.Bool.{Bool, true, false}
 use mathlib.Core.List.{List}
 use Prim.Native.Nat.{ℕ, _≤_, _<_}
-use borrow.Author.Tests.{eq-eqb, ne-eqb, lt-ltb, le-ltb}
-use lib.ListN.{length, getD}
+use native.Mathlib.Omega.{arith}
+use borrow.Author.Tests.{eq-eqb, ne-eqb}
+use lib.ListN.{length}
+use Rattle.registers.specs.Record.{names}
 use Rattle.text.specs.declared.Number.{Number}
 use Rattle.text.specs.declared.Number.the-variants.{Value, Malformed}
 use Rattle.text.specs.Text.{bytes, sameBytes, split, indexOf}
 use Rattle.lists.specs.declared.Parsed.{Parsed}
 use Rattle.lists.specs.declared.Parsed.the-variants.{Bad}
-use Rattle.lists.specs.Fields.{fieldNames, fieldPlaces}
-use Rattle.lists.specs.Line.{tab, pieceAt, numberAt, fillWithin, setWithin, fillOf, setOf, putLine, fillLine, setLine, lineOf}
+use Rattle.lists.specs.Line.{tab, isField, pieceAt, numberAt, fillWithin, setWithin, fillOf, setOf, putLine, fillLine, setLine, lineOf}
+use Rattle.lists.proofs.Ranges.{field-tested}
 
 -- ---- numbers, the first malformed one deciding
 
@@ -25,13 +27,17 @@ module _ (n0 n1 n2 n3 n4 : Number) (c0 c1 b0 : ℕ) (e0 : n0 ≡ Value c0) (e1 :
   pub five-values : (b1 n : ℕ) (x : Parsed) → n3 ≡ Value b1 → n4 ≡ Value n → x ≡ fillWithin c0 c1 b0 b1 n → x ≡ fillOf n0 n1 n2 n3 n4
   five-values b1 n x e3 e4 ex = rw (e0, e1, e2, e3, e4) ex
 
--- a value, and the number of a name
-module _ (k n : ℕ) (v : Number) (e : v ≡ Value n) where
-  pub named : (x : Parsed) → k < 25 → x ≡ setWithin (getD fieldPlaces k 0) n → x ≡ setOf k v
-  named x h ex = rw (e, lt-ltb k 25 h) ex
+-- a value, and the place of a name, t being what the test of it answered
+module _ (f n : ℕ) (v : Number) (e : v ≡ Value n) (t : Bool) (et : t ≡ isField f) where
+  pub named : t ≡ true → (x : Parsed) → x ≡ setWithin f n → x ≡ setOf f v
+  named h x ex = rw (e, sym et ∙ h) ex
 
-  pub unnamed : 25 ≤ k → Bad 6 ≡ setOf k v
-  unnamed h = rw (e, le-ltb k 25 h)
+  pub unnamed : t ≡ false → Bad 6 ≡ setOf f v
+  unnamed h = rw (e, sym et ∙ h)
+
+-- the place of a field is a byte
+pub field-place : (f : ℕ) (t : Bool) → t ≡ isField f → t ≡ true → f < 256
+field-place f t e h = omega (arith, field-tested f (sym e ∙ h))
 
 -- ---- words, with the number of pieces
 
@@ -52,7 +58,7 @@ module _ (ps : List (List ℕ)) (m : ℕ) (e : m ≡ length ps) where
   fill-other h = rw (ne-eqb (length ps) 6 (λ q. h (e ∙ q)))
 
   pub set-three :
-      m ≡ 3 → (w : List ℕ) (k : ℕ) (v : Number) (x : Parsed) → w ≡ pieceAt ps 1 → k ≡ indexOf w fieldNames → v ≡ numberAt ps 2 → x ≡ setOf k v → x ≡ setLine ps
+      m ≡ 3 → (w : List ℕ) (k : ℕ) (v : Number) (x : Parsed) → w ≡ pieceAt ps 1 → k ≡ indexOf w names → v ≡ numberAt ps 2 → x ≡ setOf k v → x ≡ setLine ps
   set-three h w k v x ew ek ev ex = rw (eq-eqb (length ps) 3 (sym e ∙ h), ← ew, ← ek, ← ev) ex
 
   pub set-other : (m ≡ 3 → ⊥) → Bad 6 ≡ setLine ps

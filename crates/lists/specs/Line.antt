@@ -1,11 +1,12 @@
 -- One line of a drawing list, without its newline: what it asks for, or 6 (malformed), 7 (out of range) or 8 (a row that can't be read).
-use mathlib.Core.Bool.{Bool, cond, _&&_, _||_}
+use mathlib.Core.Bool.{Bool, cond, not, _&&_, _||_}
 use mathlib.Core.List.{List, []}
 use Prim.Native.Nat.{ℕ}
 use lib.Dec.{eqb, leb, ltb}
 use lib.ListN.{length, getD}
 use Rattle.registers.specs.Listed.{listed}
-use Rattle.registers.specs.Record.{limits}
+use Rattle.registers.specs.Places.{H, X, Y, GR}
+use Rattle.registers.specs.Record.{names, limits}
 use Rattle.text.specs.declared.Number.{Number}
 use Rattle.text.specs.declared.Number.the-variants.{Value, Malformed}
 use Rattle.text.specs.Decimal.{numberOf}
@@ -13,7 +14,6 @@ use Rattle.text.specs.Text.{bytes, sameBytes, split, indexOf}
 use Rattle.lists.specs.declared.Line.the-variants.{Fill, Set}
 use Rattle.lists.specs.declared.Parsed.{Parsed}
 use Rattle.lists.specs.declared.Parsed.the-variants.{Good, Bad}
-use Rattle.lists.specs.Fields.{fieldNames, fieldPlaces}
 
 abbrev pub tab : ℕ
 tab = 9
@@ -46,10 +46,14 @@ fillOf (Value c0) (Value c1) (Value b0) (Value b1) (Value n) = fillWithin c0 c1 
 abbrev pub putOf : Number → Number → Number → Parsed
 putOf column bank n = fillOf column column bank bank n
 
--- k is the name's place among the fields; past the last it is unknown
+-- the registers that a `set` line can name: all but the page, the two address registers and the number of the grey register
+abbrev pub isField : ℕ → Bool
+isField f = ltb f 29 && not (eqb f H) && not (eqb f X) && not (eqb f Y) && not (eqb f GR)
+
+-- f is the place of the register of that name, or 29 where none has it
 abbrev pub setOf : ℕ → Number → Parsed
-setOf k Malformed = Bad 6
-setOf k (Value n) = cond (ltb k (length fieldNames)) (setWithin (getD fieldPlaces k 0) n) (Bad 6)
+setOf f Malformed = Bad 6
+setOf f (Value n) = cond (isField f) (setWithin f n) (Bad 6)
 
 -- ---- the words, each with its number of fields
 
@@ -66,7 +70,7 @@ abbrev pub fillLine : List (List ℕ) → Parsed
 fillLine ps = cond (eqb (length ps) 6) (fillOf (numberAt ps 1) (numberAt ps 2) (numberAt ps 3) (numberAt ps 4) (numberAt ps 5)) (Bad 6)
 
 abbrev pub setLine : List (List ℕ) → Parsed
-setLine ps = cond (eqb (length ps) 3) (setOf (indexOf (pieceAt ps 1) fieldNames) (numberAt ps 2)) (Bad 6)
+setLine ps = cond (eqb (length ps) 3) (setOf (indexOf (pieceAt ps 1) names) (numberAt ps 2)) (Bad 6)
 
 abbrev pub ofPieces : List (List ℕ) → Parsed
 ofPieces ps =

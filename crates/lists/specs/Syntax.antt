@@ -6,17 +6,17 @@ use mathlib.Core.Path.{_≡_}
 use Prim.Native.Nat.{ℕ, _≤_, _<_}
 use lib.ListN.{getD}
 use Rattle.registers.specs.Listed.{listed}
-use Rattle.registers.specs.Record.{limits}
+use Rattle.registers.specs.Places.{H, X, Y, GR}
+use Rattle.registers.specs.Record.{names, limits}
 use Rattle.text.specs.Decimal.{decimal}
 use Rattle.text.specs.Text.{bytes, join}
 use Rattle.lists.specs.declared.Line.{Line}
 use Rattle.lists.specs.declared.Line.the-variants.{Fill, Set}
-use Rattle.lists.specs.Fields.{fieldNames, fieldPlaces}
 
 pub data Syntax : Type 0 where
   put : (column bank byte : ℕ) → Syntax
   fill : (c0 c1 b0 b1 byte : ℕ) → Syntax
-  -- a field by its number in document 01's list of names
+  -- a field by the place of its register
   set : (field value : ℕ) → Syntax
 
 -- ---- how it is printed
@@ -28,13 +28,21 @@ tabbed = join 9
 unfoldable pub print : Syntax → List ℕ
 print (put c b n) = tabbed (bytes "put" ∷ decimal c ∷ decimal b ∷ decimal n ∷ [])
 print (fill c0 c1 b0 b1 n) = tabbed (bytes "fill" ∷ decimal c0 ∷ decimal c1 ∷ decimal b0 ∷ decimal b1 ∷ decimal n ∷ [])
-print (set k n) = tabbed (bytes "set" ∷ getD fieldNames k [] ∷ decimal n ∷ [])
+print (set f n) = tabbed (bytes "set" ∷ getD names f [] ∷ decimal n ∷ [])
+
+-- a register that a `set` line can name: not the page, not the address, not the number of the grey register
+pub record Field (f : ℕ) : Type 0 where
+  pub place : f < 29
+  pub not-h : f ≡ H → ⊥
+  pub not-x : f ≡ X → ⊥
+  pub not-y : f ≡ Y → ⊥
+  pub not-gr : f ≡ GR → ⊥
 
 -- numbers of at most three digits, and a field that there is
 unfoldable pub WellFormed : Syntax → Type 0
 WellFormed (put c b n) = (c < 1000) × (b < 1000) × (n < 1000)
 WellFormed (fill c0 c1 b0 b1 n) = (c0 < 1000) × (c1 < 1000) × (b0 < 1000) × (b1 < 1000) × (n < 1000)
-WellFormed (set k n) = (k < 25) × (n < 1000)
+WellFormed (set f n) = Field f × (n < 1000)
 
 -- a line parses if it is the print of something well formed
 pub record Parses (p : List ℕ) : Type 0 where
@@ -47,7 +55,7 @@ pub record Parses (p : List ℕ) : Type 0 where
 unfoldable pub asLine : Syntax → Line
 asLine (put c b n) = Fill c c b b n
 asLine (fill c0 c1 b0 b1 n) = Fill c0 c1 b0 b1 n
-asLine (set k n) = Set (getD fieldPlaces k 0) n
+asLine (set f n) = Set f n
 
 -- a rectangle of cells, and a byte that each of them can hold
 pub record ValidFill (c0 c1 b0 b1 n : ℕ) : Type 0 where
@@ -61,19 +69,17 @@ pub record ValidFill (c0 c1 b0 b1 n : ℕ) : Type 0 where
 unfoldable pub InRange : Syntax → Type 0
 InRange (put c b n) = ValidFill c c b b n
 InRange (fill c0 c1 b0 b1 n) = ValidFill c0 c1 b0 b1 n
-InRange (set k n) = n ≤ getD limits (getD fieldPlaces k 0) 0
+InRange (set f n) = n ≤ getD limits f 0
 
 -- a `set` needs a row that can be read
 unfoldable pub RowReadable : Syntax → Type 0
 RowReadable (put c b n) = Unit {0}
 RowReadable (fill c0 c1 b0 b1 n) = Unit {0}
-RowReadable (set k n) = listed (getD fieldPlaces k 0) ≡ false
+RowReadable (set f n) = listed f ≡ false
 
--- the same limits, of a line: a register that has a name, whose row can be read, and a value of its width
+-- the same limits, of a line: a register that can be named, whose row can be read, and a value of its width
 pub record ValidSet (f n : ℕ) : Type 0 where
-  pub field : ℕ
-  pub known : field < 25
-  pub place : f ≡ getD fieldPlaces field 0
+  pub field : Field f
   pub value : n ≤ getD limits f 0
   pub readable : listed f ≡ false
 

@@ -1,58 +1,23 @@
 // One line of a drawing list, without its newline. Malformed comes before out of range: 6 before 7. No row of the instruction
 // table is on the list of those that can't be read, so 8 never comes.
 ghost use mathlib.Core.Path.{_≡_};
-ghost use Rattle.text.specs.Text.{split, indexOf};
-ghost use Rattle.lists.specs.Fields.{fieldNames};
-ghost use Rattle.lists.specs.Line.{tab, fillFits, fillWithin, setWithin, fillOf, setOf, numberAt, putLine, fillLine, setLine, lineOf};
+ghost use Rattle.text.specs.Text.{split};
+ghost use Rattle.lists.specs.Line.{tab, isField, fillFits, fillWithin, setWithin, fillOf, setOf, numberAt, putLine, fillLine, setLine, lineOf};
 use crate::Line;
 use crate::Parsed;
 use text::Number;
 use text::decimal::number;
-use text::pieces::index_of;
 use text::pieces::piece;
 use text::pieces::pieces;
 use text::search::equal;
 
 const TAB: u8 = 9;
 
-// The fields that a `set` line can name, as document 01 lists them.
-const NAMES: [u8; 79] =
-    *b"do pd v d e mx my ps bs bsh dp prs hve s tc sm vop dof dm ec oc gs0 gs1 gs2 gs3";
-
-// The register of each, in the same order.
-const PLACES: [u8; 25] = [
-    1,
-    2,
-    3,
-    4,
-    5,
-    6,
-    7,
-    8,
-    11,
-    12,
-    13,
-    14,
-    15,
-    16,
-    17,
-    18,
-    19,
-    25,
-    26,
-    27,
-    28,
-    21,
-    22,
-    23,
-    24,
-];
-
-// The number of a field's name in the list of names, or 25.
-fn field(name: &[u8]) -> usize
-    ensures { λ r. ⌜ r ≡ indexOf (now (name .entry)) fieldNames ⌝ }
+// Whether a `set` line can name the register at that place: all but h, x, y and gr.
+fn is_field(place: usize) -> bool
+    ensures { λ r. ⌜ r ≡ isField place ⌝ }
 {
-    index_of(&NAMES, b' ', name)
+    (place < 29) & (place != 0) & (place != 9) & (place != 10) & (place != 20)
 }
 
 // Columns to 100 and banks to 16, each pair in order; a byte, and in bank 16 one of six bits.
@@ -118,15 +83,15 @@ fn fill(c0: Number, c1: Number, b0: Number, b1: Number, byte: Number) -> Parsed
     fill_within(first_column, last_column, first_bank, last_bank, n)
 }
 
-// k is the number of the field's name.
-fn set(k: usize, value: Number) -> Parsed
-    ensures { λ r. ⌜ r ≡ setOf k value ⌝ }
+// A field by the place of the register of its name, or 29 where no register has it.
+fn set(place: usize, value: Number) -> Parsed
+    ensures { λ r. ⌜ r ≡ setOf place value ⌝ }
 {
     let Number::Value(n) = value else {
         return Parsed::Bad(6);
     };
-    if k < 25 {
-        return set_within(PLACES[k], n);
+    if is_field(place) {
+        return set_within(place as u8, n);
     }
     Parsed::Bad(6)
 }
@@ -171,9 +136,9 @@ fn set_line(s: &[u8]) -> Parsed
     ensures { λ r. ⌜ r ≡ setLine (split tab (now (s .entry))) ⌝ }
 {
     if pieces(s, TAB) == 3 {
-        let k = field(piece(s, TAB, 1));
+        let place = registers::names::place(piece(s, TAB, 1));
         let value = number_at(s, 2);
-        return set(k, value);
+        return set(place, value);
     }
     Parsed::Bad(6)
 }

@@ -1,4 +1,5 @@
-use Rattle.lists.proofs.Words.{named, unnamed}
+use Rattle.lists.proofs.Words.{named, unnamed, field-place}
+use native.Mathlib.Omega.{arith}
 use borrow.Author.Needs.{needs}
 use Rattle.lists.proofs.grammar.set.Statement.{statement}
 use Rattle.lists.proofs.grammar.set.Tie as tie
@@ -12,17 +13,24 @@ enum-told c = search needs
 returns : tie.Need-returns
 returns c = search needs
 
-array-read-set-within : tie.Need-array-read-set-within
-array-read-set-within c = search needs
+is-field-requires : tie.Need-is-field-requires
+is-field-requires c κs = search needs
+
+cast-set-within : tie.Need-cast-set-within
+cast-set-within c =
+    let asked = c .before in
+    omega (arith, field-place (asked .before .before .before .before .args .place) _ (asked .is-field .ensures) (c .if1 .taken))
 
 set-within-requires : tie.Need-set-within-requires
 set-within-requires c κs = search needs
 
 returns-2 : tie.Need-returns-2
-returns-2 c = named _ _ _ (c .before .before .before .value .given .1) _ (c .before .if1 .taken) (c .set-within .ensures)
+returns-2 c =
+    let asked = c .before .before in
+    named _ _ _ (asked .before .before .value .given .1) _ (asked .is-field .ensures) (c .before .if1 .taken) _ (c .set-within .ensures)
 
 returns-3 : tie.Need-returns-3
-returns-3 c = unnamed _ _ _ (c .before .before .value .given .1) (c .if1 .left)
+returns-3 c = unnamed _ _ _ (c .before .before .before .value .given .1) _ (c .before .is-field .ensures) (c .if1 .left)
 
 pub set-spec : {M : Type 1} → statement M
 set-spec =
@@ -31,7 +39,8 @@ set-spec =
     enum-known-value
     enum-told
     returns
-    array-read-set-within
+    is-field-requires
+    cast-set-within
     set-within-requires
     returns-2
     returns-3)

@@ -10,8 +10,8 @@ pieces-requires c κs = search needs
 piece-requires : tie.Need-piece-requires
 piece-requires c κs = search needs
 
-field-requires : tie.Need-field-requires
-field-requires c κs = search needs
+place-requires : tie.Need-place-requires
+place-requires c κs = search needs
 
 number-at-requires : tie.Need-number-at-requires
 number-at-requires c κs = search needs
@@ -24,7 +24,7 @@ returns c =
     let counted = c .before .before .before .before .before in
     set-three (split 9 (counted .before .before .args .s .now)) _ (counted .pieces .ensures) (c .before .before .before .before .if1 .taken) _ _ _ _
     (c .before .before .before .piece .ensures)
-    (c .before .before .field .ensures)
+    (c .before .before .place .ensures)
     (c .before .number-at .ensures)
     (c .set .ensures)
 
@@ -37,7 +37,7 @@ set-line-spec =
     (tie.spec
     pieces-requires
     piece-requires
-    field-requires
+    place-requires
     number-at-requires
     set-requires
     returns
