@@ -13,7 +13,7 @@ use Rattle.lists.specs.declared.Line.{Line}
 use Rattle.lists.specs.declared.Line.the-variants.{Fill, Set}
 use Rattle.lists.specs.declared.Parsed.{Parsed}
 use Rattle.lists.specs.declared.Parsed.the-variants.{Good, Bad}
-use Rattle.lists.specs.Line.{lineOf, fillFits, fillWithin, setWithin}
+use Rattle.lists.specs.Line.{numbersOf, lineOf, fillFits, fillWithin, setWithin}
 use Rattle.lists.specs.Syntax.{Syntax, put, fill, set, asLine, InRange, RowReadable, ValidFill, Parses}
 use Rattle.lists.proofs.Ranges.{fit-cells, cells-fit}
 use Rattle.lists.proofs.Parsing.{answerTo, print-parsed, parses-or-6}
@@ -59,7 +59,18 @@ answer-is (set f n) = elim (settable f n) [ inl w ↦ good (w .0) refl (w .1) | 
 pub answered : (p : List ℕ) (l : Parses p) → Answered (l .syntax) (lineOf p)
 answered p l = rw (ap lineOf (l .printed) ∙ print-parsed (l .syntax) (l .well-formed)) (answer-is (l .syntax))
 
--- answers are told apart
+-- no two answers have the same numbers
+pub numbers-apart : (x y : Parsed) → numbersOf x ≡ numbersOf y → x ≡ y
+numbers-apart (Good (Fill c0 c1 b0 b1 n)) (Good (Fill d0 d1 a0 a1 m)) e = cc
+numbers-apart (Good (Fill c0 c1 b0 b1 n)) (Good (Set f m)) e = cc
+numbers-apart (Good (Fill c0 c1 b0 b1 n)) (Bad k) e = cc
+numbers-apart (Good (Set f m)) (Good (Fill c0 c1 b0 b1 n)) e = cc
+numbers-apart (Good (Set f m)) (Good (Set g n)) e = cc
+numbers-apart (Good (Set f m)) (Bad k) e = cc
+numbers-apart (Bad k) (Good (Fill c0 c1 b0 b1 n)) e = cc
+numbers-apart (Bad k) (Good (Set f m)) e = cc
+numbers-apart (Bad j) (Bad k) e = cc
+
 pub not-both : (x : Parsed) (l : Line) (k : ℕ) → x ≡ Good l → x ≡ Bad k → ⊥
 not-both x l k g b = let z : _≡_ {A = ℕ} 0 1 = cc in omega arith
 

@@ -1,19 +1,20 @@
 -- What is promised of a drawing list's lines, in one place: read this file first, then specs/Syntax.antt. The work stands in the files beside
 -- it; what holds of a whole text, place by place, is in Positions.antt.
 use mathlib.Core.Path.{_≡_, refl, sym, ap, _∙_}
-use mathlib.Core.List.{List}
+use mathlib.Core.List.{List, [], _∷_}
 use mathlib.Core.Logic.{_↔_}
 use Prim.Native.Nat.{ℕ, _≤_}
 use native.Mathlib.Omega.{arith}
 use Rattle.lists.specs.declared.Line.{Line}
 use Rattle.lists.specs.declared.Parsed.the-variants.{Good, Bad}
-use Rattle.lists.specs.Line.{lineOf}
-use Rattle.lists.specs.Syntax.{Syntax, put, fill, set, WellFormed, Parses, AcceptedAs, Valid, Malformed, OutOfRange, RowUnreadable, InRange, RowReadable, asLine}
-use Rattle.lists.proofs.Answers.{Answered, good, out, no-row, answered, Parsing, not-parsed, parsed, parsing, not-both, one-number}
+use Rattle.lists.specs.Line.{valuesOf, numbersOf, lineOf}
+use Rattle.lists.specs.Syntax.{Syntax, put, fill, set, WellFormed, Parses, InRange, RowReadable, asLine, Valid}
+use Rattle.lists.specs.Syntax.{AcceptedAs, Malformed, OutOfRange, RowUnreadable}
+use Rattle.lists.proofs.Answers.{Answered, good, out, no-row, answered, Parsing, not-parsed, parsed, parsing, numbers-apart, not-both, one-number}
 
 -- a line is accepted as l exactly if it parses as something within its limits that asks for l
-pub accepted : (p : List ℕ) (l : Line) → (lineOf p ≡ Good l) ↔ AcceptedAs p l
-accepted p l = (there (parsing p), λ s. back s (answered p (s .parses)))
+pub accepted : (p : List ℕ) (l : Line) → (numbersOf (lineOf p) ≡ 0 ∷ valuesOf l) ↔ AcceptedAs p l
+accepted p l = (λ h. there (parsing p) (numbers-apart (lineOf p) (Good l) h), λ s. ap numbersOf (back s (answered p (s .parses))))
   where
     there : Parsing p → lineOf p ≡ Good l → AcceptedAs p l
     there (not-parsed m e) h = absurd (not-both _ _ _ h e)
@@ -26,10 +27,10 @@ accepted p l = (there (parsing p), λ s. back s (answered p (s .parses)))
     back s (out m e) = absurd (m (s .in-range))
     back s (no-row w m e) = absurd (m (s .readable))
 
--- and then l is valid
+-- and then it is valid
 pub valid : (p : List ℕ) (l : Line) → lineOf p ≡ Good l → Valid l
 unfolding WellFormed InRange RowReadable asLine Valid
-valid p l h = accepted-valid (accepted p l .0 h)
+valid p l h = accepted-valid (accepted p l .0 (ap numbersOf h))
   where
     asks : (s : Syntax) → WellFormed s → InRange s → RowReadable s → Valid (asLine s)
     asks (put c b n) f w r = w
@@ -40,8 +41,8 @@ valid p l h = accepted-valid (accepted p l .0 h)
     accepted-valid s = rw (s .line) (asks (s .parses .syntax) (s .parses .well-formed) (s .in-range) (s .readable))
 
 -- 6 comes exactly if it does not parse
-pub malformed : (p : List ℕ) → (lineOf p ≡ Bad 6) ↔ Malformed p
-malformed p = (λ h. there (parsing p) h, back (parsing p))
+pub malformed : (p : List ℕ) → (numbersOf (lineOf p) ≡ 6 ∷ []) ↔ Malformed p
+malformed p = (λ h. there (parsing p) (numbers-apart (lineOf p) (Bad 6) h), λ m. ap numbersOf (back (parsing p) m))
   where
     there : Parsing p → lineOf p ≡ Bad 6 → Parses p → ⊥
     there (not-parsed m e) h = m
@@ -54,8 +55,9 @@ malformed p = (λ h. there (parsing p) h, back (parsing p))
     back (parsed s j) n = absurd (n s)
 
 -- 7 comes exactly if it parses as something out of range
-pub out-of-range : (p : List ℕ) → (lineOf p ≡ Bad 7) ↔ OutOfRange p
-out-of-range p = (there (parsing p), λ s. back (s .0) (s .1) (answered p (s .0)))
+pub out-of-range : (p : List ℕ) → (numbersOf (lineOf p) ≡ 7 ∷ []) ↔ OutOfRange p
+out-of-range p =
+    (λ h. there (parsing p) (numbers-apart (lineOf p) (Bad 7) h), λ s. ap numbersOf (back (s .0) (s .1) (answered p (s .0))))
   where
     there : Parsing p → lineOf p ≡ Bad 7 → OutOfRange p
     there (not-parsed m e) h = absurd (omega (arith, one-number (lineOf p) 6 7 e h))
@@ -69,8 +71,9 @@ out-of-range p = (there (parsing p), λ s. back (s .0) (s .1) (answered p (s .0)
     back s n (no-row w m e) = absurd (n w)
 
 -- 8 comes exactly if it parses as something in range, for a row that can't be read
-pub unreadable : (p : List ℕ) → (lineOf p ≡ Bad 8) ↔ RowUnreadable p
-unreadable p = (there (parsing p), λ s. back (s .0) (s .1) (s .2) (answered p (s .0)))
+pub unreadable : (p : List ℕ) → (numbersOf (lineOf p) ≡ 8 ∷ []) ↔ RowUnreadable p
+unreadable p =
+    (λ h. there (parsing p) (numbers-apart (lineOf p) (Bad 8) h), λ s. ap numbersOf (back (s .0) (s .1) (s .2) (answered p (s .0))))
   where
     there : Parsing p → lineOf p ≡ Bad 8 → RowUnreadable p
     there (not-parsed m e) h = absurd (omega (arith, one-number (lineOf p) 6 8 e h))

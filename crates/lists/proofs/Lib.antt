@@ -6,3 +6,4 @@ pub mod Answers
 pub mod Laws
 pub mod Positions
 pub mod Readings
+pub mod Wrong

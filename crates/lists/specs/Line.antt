@@ -1,6 +1,6 @@
 -- One line of a drawing list, without its newline: what it asks for, or 6 (malformed), 7 (out of range) or 8 (a row that can't be read).
 use mathlib.Core.Bool.{Bool, cond, not, _&&_, _||_}
-use mathlib.Core.List.{List, []}
+use mathlib.Core.List.{List, [], _∷_}
 use Prim.Native.Nat.{ℕ}
 use lib.Dec.{eqb, leb, ltb}
 use lib.ListN.{length, getD}
@@ -11,12 +11,25 @@ use Rattle.text.specs.declared.Number.{Number}
 use Rattle.text.specs.declared.Number.the-variants.{Value, Malformed}
 use Rattle.text.specs.Decimal.{numberOf}
 use Rattle.text.specs.Text.{bytes, sameBytes, split, indexOf}
+use Rattle.lists.specs.declared.Line.{Line}
 use Rattle.lists.specs.declared.Line.the-variants.{Fill, Set}
 use Rattle.lists.specs.declared.Parsed.{Parsed}
 use Rattle.lists.specs.declared.Parsed.the-variants.{Good, Bad}
 
 abbrev pub tab : ℕ
 tab = 9
+
+-- ---- what comes back, in document 01's numbers
+
+-- a fill's columns, banks and byte; a register's place and its value
+abbrev pub valuesOf : Line → List ℕ
+valuesOf (Fill c0 c1 b0 b1 n) = c0 ∷ c1 ∷ b0 ∷ b1 ∷ n ∷ []
+valuesOf (Set f n) = f ∷ n ∷ []
+
+-- 0 and the line's values, or a refusal's number alone
+abbrev pub numbersOf : Parsed → List ℕ
+numbersOf (Good l) = 0 ∷ valuesOf l
+numbersOf (Bad k) = k ∷ []
 
 -- ---- 7, once a line is well formed
 
