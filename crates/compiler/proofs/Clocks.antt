@@ -12,9 +12,9 @@ use Rattle.registers.specs.declared.Registers.{Registers}
 use Rattle.registers.specs.Reversed.{ordered}
 use Rattle.chip.specs.Plays.{writeAddress}
 use Rattle.compiler.specs.Stream.{across, down, firstX, fill, byteEvents}
-use Rattle.compiler.specs.Writes.{runEvents, runsEvents, fillCount}
+use Rattle.compiler.specs.Writes.{runEvents, runsFrom, fillCount}
 use Rattle.compiler.proofs.Fills.{ordered-byte}
-use Rattle.compiler.proofs.Emits.{across-runs, down-runs, across-length, down-length}
+use Rattle.compiler.proofs.Writes.{across-runs, down-runs, across-length, down-length, first-x-limit}
 
 pub bytes-append : (xs ys : List ℕ) → byteEvents (xs ++ ys) ≡ byteEvents xs + byteEvents ys
 bytes-append [] ys = sym (zero-add (byteEvents ys))
@@ -46,14 +46,14 @@ pub runs-bytes :
     → dy ≤ 1
     → x + k ≤ 128
     → y + k ≤ 192
-    → byteEvents (runsEvents pins n e dx dy x y k) ≡ k * (8 + n)
+    → byteEvents (runsFrom pins n e dx dy x y k) ≡ k * (8 + n)
 runs-bytes pins n e dx dy x y zero hp he hdx hdy hx hy = sym (zero-mul (8 + n))
 runs-bytes pins n e dx dy x y (suc k) hp he hdx hdy hx hy =
     omega (
       arith,
       suc-mul k (8 + n),
       run-bytes pins x y n e hp (omega arith) (omega arith) he,
-      bytes-append (runEvents pins x y n e) (runsEvents pins n e dx dy (x + dx) (y + dy) k),
+      bytes-append (runEvents pins x y n e) (runsFrom pins n e dx dy (x + dx) (y + dy) k),
       runs-bytes pins n e dx dy (x + dx) (y + dy) k hp he hdx hdy (omega arith) (omega arith),
     )
 
@@ -61,23 +61,21 @@ pub across-bytes :
     (pins : ℕ) (q : Registers) (x n b y k : ℕ) → pins ≤ 3 → b < 256 → x ≤ 100 → y + k ≤ 17 → byteEvents (across pins q x n b y k) ≡ k * (8 + n)
 across-bytes pins q x n b y k hp hb hx hy =
     sym (ap byteEvents (across-runs pins q x n b y k))
-    ∙ runs-bytes pins n (ordered (q .«data_order») b) 0 1 x y k hp (ordered-byte (eqb (q .«data_order») 1) b hb) (omega arith) (omega arith) (omega arith) (omega arith)
+    ∙ runs-bytes pins n (ordered (q .«data_order») b) 0 1 x y k hp (ordered-byte (eqb (q .«data_order») 1) b hb)
+    (omega arith) (omega arith) (omega arith) (omega arith)
 
 pub down-bytes :
     (pins : ℕ) (q : Registers) (y n b x k : ℕ) → pins ≤ 3 → b < 256 → y ≤ 16 → x + k ≤ 101 → byteEvents (down pins q y n b x k) ≡ k * (8 + n)
 down-bytes pins q y n b x k hp hb hy hx =
     sym (ap byteEvents (down-runs pins q y n b x k))
-    ∙ runs-bytes pins n (ordered (q .«data_order») b) 1 0 x y k hp (ordered-byte (eqb (q .«data_order») 1) b hb) (omega arith) (omega arith) (omega arith) (omega arith)
+    ∙ runs-bytes pins n (ordered (q .«data_order») b) 1 0 x y k hp (ordered-byte (eqb (q .«data_order») 1) b hb)
+    (omega arith) (omega arith) (omega arith) (omega arith)
 
 -- ---- a whole fill, whatever V and MX are
 
 either : (f : List ℕ → ℕ) (t : Bool) (xs ys : List ℕ) (m n : ℕ) → f xs ≡ m → f ys ≡ n → f (cond t xs ys) ≡ cond t m n
 either f true xs ys m n h k = h
 either f false xs ys m n h k = k
-
-first-x-limit : (t : Bool) (c0 c1 : ℕ) → c0 ≤ c1 → c1 ≤ 100 → cond t (100 - c1) c0 + (c1 - c0 + 1) ≤ 101
-first-x-limit true c0 c1 h k = omega arith
-first-x-limit false c0 c1 h k = omega arith
 
 module _ (pins : ℕ) (q : Registers) (c0 c1 b0 b1 n : ℕ) where
   pub fill-length : length (fill pins q c0 c1 b0 b1 n) ≡ fillCount 10 q c0 c1 b0 b1

@@ -39,7 +39,9 @@ module _ (c : Chip) (text out : List ℕ) where
   into : (es : List ℕ) → Readable c text → Streams c text es → Verdict (intoOutput es out)
   into es ok streams = go (leb (length es) (length out)) refl
     where
-      go : (t : Bool) → leb (length es) (length out) ≡ t → Verdict (cond t (result (Done (length es) (clocksOf es)) (sets out 0 es)) (result (Short (length es)) out))
+      go :
+          (t : Bool) → leb (length es) (length out) ≡ t
+          → Verdict (cond t (result (Done (length es) (clocksOf es)) (sets out 0 es)) (result (Short (length es)) out))
       go true e = done (length es) (clocksOf es) es (ok, (es, streams, refl, refl, leb-true (length es) (length out) e))
       go false e = refused (Short (length es)) (ok, (es, streams, refl, leb-false (length es) (length out) e))
 
@@ -78,21 +80,28 @@ module _ (c : Chip) (text out : List ℕ) where
   so (Refused k) (inr w) = rw (w .1, lt-ltb 4096 (newlines text) (w .2), w .0)
   so (BadLine k i) w = ap (λ (r : Result). r .answer) (from-reading (w .0) ∙ ap (λ (r : Reading). fromReading (c .pins) (blank (c .registers)) r out) (w .1))
   so (Short n) (ok, (es, streams, count, short)) =
-      ap (λ (r : Result). r .answer) (from-stream es ok streams) ∙ rw (lt-leb (length es) (length out) (subst (λ (m : ℕ). length out < m) count short), count)
+      ap (λ (r : Result). r .answer) (from-stream es ok streams)
+      ∙ rw (lt-leb (length es) (length out) (subst (λ (m : ℕ). length out < m) count short), count)
   so (Done n k) (ok, (es, streams, count, clocks, room)) =
-      ap (λ (r : Result). r .answer) (from-stream es ok streams) ∙ rw (le-leb (length es) (length out) (subst (λ (m : ℕ). m ≤ length out) count room), count, clocks)
+      ap (λ (r : Result). r .answer) (from-stream es ok streams)
+      ∙ rw (le-leb (length es) (length out) (subst (λ (m : ℕ). m ≤ length out) count room), count, clocks)
 
   -- each answer comes exactly when document 01's table says
   pub exactly-when : (r : Compiled) → (compileOf c text out .answer ≡ r) ↔ When c text out r
   exactly-when r = (λ e. subst (When c text out) e (told (compileOf c text out) verdict), so r)
 
   -- the length is that of the stream, the clocks are nine for each of its bytes, and the output begins with it and is else as it was
-  pub accepted : (es : List ℕ) → Readable c text → Streams c text es → length es ≤ length out → compileOf c text out ≡ result (Done (length es) (clocksOf es)) (sets out 0 es)
+  pub accepted :
+      (es : List ℕ) → Readable c text → Streams c text es → length es ≤ length out
+      → compileOf c text out ≡ result (Done (length es) (clocksOf es)) (sets out 0 es)
   accepted es ok streams room = from-stream es ok streams ∙ rw (le-leb (length es) (length out) room)
 
   -- in document 01's numbers: 2 comes exactly where the record is not allowed
   pub two-exactly : (numbersOf (compileOf c text out .answer) .number ≡ 2) ↔ (allowed c ≡ false)
-  two-exactly = (λ e. there (compileOf c text out .answer) (told (compileOf c text out) verdict) e, λ h. ap (λ (r : Compiled). numbersOf r .number) (so (Refused 2) (inl (refl, h))))
+  two-exactly = (
+    λ e. there (compileOf c text out .answer) (told (compileOf c text out) verdict) e,
+    λ h. ap (λ (r : Compiled). numbersOf r .number) (so (Refused 2) (inl (refl, h))),
+  )
     where
       there : (r : Compiled) → When c text out r → numbersOf r .number ≡ 2 → allowed c ≡ false
       there (Refused k) (inl w) e = w .1

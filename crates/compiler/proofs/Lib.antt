@@ -1,7 +1,7 @@
 pub mod Clocks
-pub mod CodeWays
+pub mod CodePasses
+pub mod CodeRuns
 pub mod Demand3
-pub mod Emits
 pub mod Fill
 pub mod Fills
 pub mod Fits
@@ -12,3 +12,4 @@ pub mod Set
 pub mod Sets
 pub mod Settings
 pub mod Tracked
+pub mod Writes

@@ -15,7 +15,7 @@ use Rattle.compiler.specs.Plain.{setTo, registersAfter}
 use Rattle.compiler.specs.Stream.{fill, setCommands, lineEvents, byteEvents}
 use Rattle.compiler.specs.Writes.{Wrote, Tracked, fillCount, setLength}
 use Rattle.compiler.proofs.Clocks.{fill-length, fill-bytes, byte-counts}
-use Rattle.compiler.proofs.Emits.{wrote-then, wrote-none}
+use Rattle.compiler.proofs.Writes.{wrote-then, wrote-none}
 use Rattle.compiler.proofs.Fits.{LineFits, line-fits}
 use Rattle.compiler.proofs.Settings.{set-length}
 use Rattle.compiler.proofs.Tracked.{tracked-bytes}

@@ -45,7 +45,9 @@ module _ (c : Chip) (text out : List ℕ) where
   from-output :
       (ls : List Line) (n k : ℕ) (out′ : List ℕ) (t : Bool) → readingOf text ≡ lines ls
       → leb (length (eventsOf ls)) (length out) ≡ t
-      → result (Done n k) out′ ≡ cond t (result (Done (length (eventsOf ls)) (clocksOf (eventsOf ls))) (sets out 0 (eventsOf ls))) (result (Short (length (eventsOf ls))) out)
+      → result (Done n k) out′
+      ≡ cond t (result (Done (length (eventsOf ls)) (clocksOf (eventsOf ls))) (sets out 0 (eventsOf ls)))
+      (result (Short (length (eventsOf ls))) out)
       → Draws c text n out′
   from-output ls n k out′ false reads room e = absurd (done-short n k _ (answers _ _ e))
   from-output ls n k out′ true reads room e =

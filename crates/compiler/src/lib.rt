@@ -16,6 +16,7 @@ mod emit;
 mod line;
 mod measure;
 mod message;
+mod runs;
 mod setting;
 mod write;
 
@@ -29,7 +30,7 @@ fn blanked(mut registers: Registers) -> Registers
     registers
 }
 
-// The same for a record that is allowed and a text of no more than 4,096 lines, from the pins and the blanked registers.
+// The events of a text that neither 2 nor 9 refuses, from the pins and the blanked registers.
 fn compile_lines(registers: Registers, pins: u8, text: &[u8], out: &mut [u16]) -> Compiled
     requires { ⌜ (newlines (now text) ≤ 4096) × Tracked registers × (pins ≤ 3) ⌝ }
     ensures { λ r. ⌜ result r (now (out .exit)) ≡ fromReading pins registers (readingOf (now (text .entry))) (now (out .entry)) ⌝ }

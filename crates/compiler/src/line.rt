@@ -4,10 +4,11 @@ ghost use Prim.Native.Nat.{_+_, _≤_};
 ghost use lib.ListN.{length};
 ghost use Rattle.lists.specs.Syntax.{Valid};
 ghost use Rattle.compiler.specs.Plain.{registersAfter};
-ghost use Rattle.compiler.specs.Stream.{lineEvents, byteEvents};
-ghost use Rattle.compiler.specs.Writes.{Wrote, Tracked};
-use crate::emit;
+ghost use Rattle.compiler.specs.Stream.{lineEvents};
+ghost use Rattle.compiler.specs.Writes.{Wrote, Tracked, countsOf};
 use crate::message;
+use crate::runs;
+use crate::runs::Counts;
 use crate::setting;
 use lists::Line;
 use registers::Registers;
@@ -29,33 +30,9 @@ pub fn after(line: Line, registers: Registers) -> Registers
 }
 
 // How many events a line takes.
-pub fn events(line: Line, registers: Registers, pins: u8) -> usize
-    requires { ⌜ Valid line ⌝ }
-    ensures { λ r. ⌜ r ≡ length (lineEvents pins line registers) ⌝ }
-{
-    match line {
-        Line::Fill {
-            first_column,
-            last_column,
-            first_bank,
-            last_bank,
-            byte: _,
-        } => emit::fill_count(
-            registers,
-            first_column,
-            last_column,
-            first_bank,
-            last_bank,
-            10,
-        ),
-        Line::Set { field, value: _ } => setting::commands_count(field) * 2 + 3,
-    }
-}
-
-// How many of them are bytes.
-pub fn bytes(line: Line, registers: Registers, pins: u8) -> usize
+pub fn count(line: Line, registers: Registers, pins: u8) -> Counts
     requires { ⌜ Valid line × Tracked registers × (pins ≤ 3) ⌝ }
-    ensures { λ r. ⌜ r ≡ byteEvents (lineEvents pins line registers) ⌝ }
+    ensures { λ r. ⌜ r ≡ countsOf (lineEvents pins line registers) ⌝ }
 {
     match line {
         Line::Fill {
@@ -63,16 +40,22 @@ pub fn bytes(line: Line, registers: Registers, pins: u8) -> usize
             last_column,
             first_bank,
             last_bank,
-            byte: _,
-        } => emit::fill_count(
+            byte,
+        } => runs::count(
             registers,
             first_column,
             last_column,
             first_bank,
             last_bank,
-            8,
+            byte,
         ),
-        Line::Set { field, value: _ } => setting::commands_count(field) * 2 + 1,
+        Line::Set { field, value: _ } => {
+            let words = setting::commands_count(field) * 2;
+            Counts {
+                events: words + 3,
+                bytes: words + 1,
+            }
+        }
     }
 }
 
@@ -88,7 +71,7 @@ pub fn write(out: &mut [u16], at: usize, line: Line, registers: Registers, pins:
             first_bank,
             last_bank,
             byte,
-        } => emit::fill(
+        } => runs::write(
             out,
             at,
             pins,

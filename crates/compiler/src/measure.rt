@@ -33,8 +33,9 @@ pub fn measure(text: &[u8], registers: Registers, pins: u8) -> Measured
                 };
             }
             Parsed::Good(asked) => {
-                length += line::events(asked, tracked, pins);
-                bytes += line::bytes(asked, tracked, pins);
+                let counts = line::count(asked, tracked, pins);
+                length += counts.events;
+                bytes += counts.bytes;
                 tracked = line::after(asked, tracked);
             }
         }

@@ -1,4 +1,4 @@
-use Rattle.compiler.proofs.Emits.{wrote-then}
+use Rattle.compiler.proofs.Writes.{wrote-then}
 use borrow.Author.Needs.{needs}
 use Rattle.compiler.proofs.emit.head.Statement.{statement}
 use Rattle.compiler.proofs.emit.head.Tie as tie
@@ -29,11 +29,13 @@ same-length c = search needs
 
 returns : tie.Need-returns
 returns c =
-    wrote-then
-    (c .before .before .before .before .before .before .before .before .before .before .before .before .before .before .before .before .before .before .pair .ensures)
-    (wrote-then
-    (c .before .before .before .before .before .before .before .before .before .before .before .before .before .before .pair2 .ensures)
-    (wrote-then (c .before .before .before .before .before .before .before .before .before .before .pair3 .ensures) (wrote-then (c .before .before .before .before .before .before .pair4 .ensures) (c .before .before .put .ensures))))
+    let drawing = c .before .before in
+    let at-y = drawing .before .before .before .before in
+    let at-x = at-y .before .before .before .before in
+    let in-page = at-x .before .before .before .before in
+    let started = in-page .before .before .before .before in
+    let commands = wrote-then (in-page .pair2 .ensures) (wrote-then (at-x .pair3 .ensures) (at-y .pair4 .ensures)) in
+    wrote-then (started .pair .ensures) (wrote-then commands (drawing .put .ensures))
 
 pub head-spec : {M : Type 1} → statement M
 head-spec =

@@ -1,4 +1,4 @@
-use Rattle.compiler.proofs.Emits.{wrote-then}
+use Rattle.compiler.proofs.Writes.{wrote-then}
 use borrow.Author.Needs.{needs}
 use Rattle.compiler.proofs.emit.pair.Statement.{statement}
 use Rattle.compiler.proofs.emit.pair.Tie as tie
@@ -13,7 +13,10 @@ same-length : tie.Need-same-length
 same-length c = search needs
 
 returns : tie.Need-returns
-returns c = wrote-then (c .before .before .before .before .before .before .put .ensures) (c .before .before .put2 .ensures)
+returns c =
+    let second = c .before .before in
+    let first = second .before .before .before .before in
+    wrote-then (first .put .ensures) (second .put2 .ensures)
 
 pub pair-spec : {M : Type 1} → statement M
 pair-spec = tie.close (tie.spec put-requires put-requires-2 same-length returns)

@@ -4,7 +4,7 @@ use Prim.Native.Nat.{ℕ, _+_}
 use lib.ListN.{length, replicate}
 use native.Mathlib.Omega.{arith}
 use Rattle.compiler.specs.Writes.{Wrote}
-use Rattle.compiler.proofs.Emits.{repeat-turn, no-more}
+use Rattle.compiler.proofs.CodeRuns.{repeat-turn, no-more}
 use borrow.Author.Needs.{needs}
 use Rattle.compiler.proofs.emit.repeat.Statement.{statement}
 use Rattle.compiler.proofs.emit.repeat.Tie as tie
@@ -31,17 +31,19 @@ loop-less : tie.Need-loop-less Inv-loop μ-loop
 loop-less c = search needs
 
 loop-again : tie.Need-loop-again Inv-loop μ-loop
-loop-again c = (
-  search needs,
-  search needs,
-  λ l j w. c .before .before .before .before .before .loop .inv .2 l j (repeat-turn _ (c .before .before .before .before .loop-test .taken) (c .before .before .put .ensures) w),
-)
+loop-again c =
+    let written = c .before .before in
+    let test = written .before .before in
+    let rest = test .before .loop .inv .2 in
+    (search needs, search needs, λ l j w. rest l j (repeat-turn _ (test .loop-test .taken) (written .put .ensures) w))
 
 same-length : tie.Need-same-length Inv-loop μ-loop
 same-length c = search needs
 
 returns : tie.Need-returns Inv-loop μ-loop
-returns c = c .before .loop .inv .2 _ _ (no-more _ _ (c .before .loop .left) (c .before .before .before .args .event) (omega arith))
+returns c =
+    let here = c .before in
+    here .loop .inv .2 _ _ (no-more _ _ (here .loop .left) (here .before .before .args .event) (omega arith))
 
 pub repeat-spec : {M : Type 1} → statement M
 repeat-spec =

@@ -1,9 +1,9 @@
 use native.Mathlib.Omega.{arith}
 use Prim.Native.Nat.{_-_}
 use lib.ListN.{length}
-use Rattle.lists.proofs.Positions.{reading-next, line-valid}
-use Rattle.compiler.proofs.CodeWays.{Measuring, measuring-start, measuring-end, measuring-fault, measuring-room, measuring-byte-room, measuring-turn}
 use borrow.Author.Needs.{needs}
+use Rattle.lists.proofs.Positions.{reading-next, line-valid}
+use Rattle.compiler.proofs.CodePasses.{Measuring, measuring-start, measuring-end, measuring-fault, measuring-room, measuring-turn}
 use Rattle.compiler.proofs.measure.measure.Statement.{statement}
 use Rattle.compiler.proofs.measure.measure.Tie as tie
 
@@ -24,48 +24,64 @@ enum-known-parsed c = search needs
 
 returns : tie.Need-returns Inv-loop μ-loop
 returns c =
-    measuring-fault (c .before .before .before .before .before .loop .inv) (c .before .before .before .before .loop-test .taken) _ (c .before .before .before .line-at .ensures) _ (c .before .parsed .given .1)
+    let found = c .before .before .before in
+    let test = found .before in
+    measuring-fault (test .before .loop .inv) (test .loop-test .taken) _ (found .line-at .ensures) _ (c .before .parsed .given .1)
 
 enum-known-parsed-2 : tie.Need-enum-known-parsed-2 Inv-loop μ-loop
 enum-known-parsed-2 c = search needs
 
-events-requires : tie.Need-events-requires Inv-loop μ-loop
-events-requires c κs = line-valid _ _ (c .before .before .before .before .loop-test .taken) _ (c .before .before .before .line-at .ensures) _ (c .before .parsed2 .given .1)
+count-requires : tie.Need-count-requires Inv-loop μ-loop
+count-requires c κs =
+    let found = c .before .before .before in
+    let test = found .before in
+    let inv = test .before .loop .inv in
+    (line-valid _ _ (test .loop-test .taken) _ (found .line-at .ensures) _ (c .before .parsed2 .given .1), inv .tracked, inv .pins-fit)
 
 add-length : tie.Need-add-length Inv-loop μ-loop
 add-length c =
-    omega (
-      arith,
-      measuring-room (c .before .before .before .before .before .before .loop .inv) (c .before .before .before .before .before .loop-test .taken) _ (c .before .before .before .before .line-at .ensures) _ (c .before .before .parsed2 .given .1) _ (c .events .ensures),
-    )
-
-bytes-requires : tie.Need-bytes-requires Inv-loop μ-loop
-bytes-requires c κs = (
-  line-valid _ _ (c .before .before .before .before .before .loop-test .taken) _ (c .before .before .before .before .line-at .ensures) _ (c .before .before .parsed2 .given .1),
-  c .before .before .before .before .before .before .loop .inv .tracked,
-  c .before .before .before .before .before .before .loop .inv .pins-fit,
-)
+    let counted = c .before in
+    let told = counted .before .before in
+    let found = told .before .before in
+    let test = found .before in
+    let room =
+    measuring-room (test .before .loop .inv) (test .loop-test .taken) _ (found .line-at .ensures) _ (told .parsed2 .given .1) _ (counted .count .ensures)
+    in
+    omega (arith, room .0)
 
 add-bytes : tie.Need-add-bytes Inv-loop μ-loop
 add-bytes c =
-    omega (
-      arith,
-      measuring-byte-room (c .before .before .before .before .before .before .before .loop .inv) (c .before .before .before .before .before .before .loop-test .taken) _ (c .before .before .before .before .before .line-at .ensures) _ (c .before .before .before .parsed2 .given .1) _ (c .bytes .ensures),
-    )
+    let counted = c .before .before in
+    let told = counted .before .before in
+    let found = told .before .before in
+    let test = found .before in
+    let room =
+    measuring-room (test .before .loop .inv) (test .loop-test .taken) _ (found .line-at .ensures) _ (told .parsed2 .given .1) _ (counted .count .ensures)
+    in
+    omega (arith, room .1)
 
 after-requires : tie.Need-after-requires Inv-loop μ-loop
 after-requires c κs = search needs
 
 add-number : tie.Need-add-number Inv-loop μ-loop
-add-number c = omega (arith, c .before .before .before .before .before .before .before .before .loop .inv .lines-left)
+add-number c =
+    let found = c .before .before .before .before .before .before .before in
+    omega (arith, found .before .before .loop .inv .lines-left)
 
 loop-less : tie.Need-loop-less Inv-loop μ-loop
-loop-less c = omega (arith, c .before .before .before .before .before .before .before .loop-test .taken, reading-next _ _ 1 (c .before .before .before .before .before .before .before .loop-test .taken) _ (c .before .before .before .before .before .before .line-at .ensures))
+loop-less c =
+    let found = c .before .before .before .before .before .before .before in
+    let here = found .before .loop-test .taken in
+    omega (arith, here, reading-next _ _ 1 here _ (found .line-at .ensures))
 
 loop-again : tie.Need-loop-again Inv-loop μ-loop
 loop-again c =
-    measuring-turn (c .before .before .before .before .before .before .before .before .loop .inv) (c .before .before .before .before .before .before .before .loop-test .taken) _ (c .before .before .before .before .before .before .line-at .ensures) _ (c .before .before .before .before .parsed2 .given .1) _ _ _
-    (c .before .before .events .ensures) (c .before .bytes .ensures) (c .after .ensures)
+    let counted = c .before .before .before in
+    let told = counted .before .before in
+    let found = told .before .before in
+    let test = found .before in
+    measuring-turn (test .before .loop .inv) (test .loop-test .taken) _ (found .line-at .ensures) _ (told .parsed2 .given .1) _ (counted .count .ensures) _
+    (c .after .ensures)
 
 returns-2 : tie.Need-returns-2 Inv-loop μ-loop
 returns-2 c = measuring-end (c .before .loop .inv) (c .loop-test .left)
@@ -81,9 +97,8 @@ measure-spec =
     enum-known-parsed
     returns
     enum-known-parsed-2
-    events-requires
+    count-requires
     add-length
-    bytes-requires
     add-bytes
     after-requires
     add-number

@@ -2,7 +2,7 @@ use native.Mathlib.Omega.{arith}
 use Prim.Native.Nat.{_-_}
 use lib.ListN.{length}
 use Rattle.lists.proofs.Positions.{reading-next}
-use Rattle.compiler.proofs.CodeWays.{Writing, writing-start, writing-end, writing-no-fault, writing-room, writing-turn}
+use Rattle.compiler.proofs.CodePasses.{Writing, writing-start, writing-end, writing-no-fault, writing-room, writing-turn}
 use borrow.Author.Needs.{needs}
 use Rattle.compiler.proofs.write.write.Statement.{statement}
 use Rattle.compiler.proofs.write.write.Tie as tie
@@ -23,27 +23,44 @@ enum-told : tie.Need-enum-told Inv-loop μ-loop
 enum-told c = search needs
 
 same-length : tie.Need-same-length Inv-loop μ-loop
-same-length c = c .before .before .before .before .loop .inv .same-length
+same-length c =
+    let found = c .before .before in
+    found .before .before .loop .inv .same-length
 
 returns : tie.Need-returns Inv-loop μ-loop
-returns c = absurd (writing-no-fault (c .before .before .before .before .loop .inv) (c .before .before .before .loop-test .taken) _ (c .before .before .line-at .ensures) _ (c .enum-told .given .1))
+returns c =
+    let found = c .before .before in
+    let test = found .before in
+    absurd (writing-no-fault (test .before .loop .inv) (test .loop-test .taken) _ (found .line-at .ensures) _ (c .enum-told .given .1))
 
 enum-known-parsed : tie.Need-enum-known-parsed Inv-loop μ-loop
 enum-known-parsed c = search needs
 
 write-requires : tie.Need-write-requires Inv-loop μ-loop
-write-requires c κs = writing-room (c .before .before .before .before .before .before .loop .inv) (c .before .before .before .before .before .loop-test .taken) _ (c .before .before .before .before .line-at .ensures) _ (c .before .before .parsed .given .1)
+write-requires c κs =
+    let told = c .before .before in
+    let found = told .before .before in
+    let test = found .before in
+    writing-room (test .before .loop .inv) (test .loop-test .taken) _ (found .line-at .ensures) _ (told .parsed .given .1)
 
 after-requires : tie.Need-after-requires Inv-loop μ-loop
 after-requires c κs = search needs
 
 loop-less : tie.Need-loop-less Inv-loop μ-loop
-loop-less c = omega (arith, c .before .before .before .before .before .before .before .before .before .loop-test .taken, reading-next _ _ 1 (c .before .before .before .before .before .before .before .before .before .loop-test .taken) _ (c .before .before .before .before .before .before .before .before .line-at .ensures))
+loop-less c =
+    let told = c .before .before .before .before .before .before in
+    let found = told .before .before in
+    let here = found .before .loop-test .taken in
+    omega (arith, here, reading-next _ _ 1 here _ (found .line-at .ensures))
 
 loop-again : tie.Need-loop-again Inv-loop μ-loop
 loop-again c =
-    writing-turn (c .before .before .before .before .before .before .before .before .before .before .loop .inv) (c .before .before .before .before .before .before .before .before .before .loop-test .taken) _ (c .before .before .before .before .before .before .before .before .line-at .ensures) _ (c .before .before .before .before .before .before .parsed .given .1) _ _ _
-    (search needs) (c .before .before .before .write .ensures) (c .after .ensures)
+    let written = c .before .before .before in
+    let told = written .before .before .before in
+    let found = told .before .before in
+    let test = found .before in
+    writing-turn (test .before .loop .inv) (test .loop-test .taken) _ (found .line-at .ensures) _ (told .parsed .given .1) _ _ _
+    (search needs) (written .write .ensures) (c .after .ensures)
 
 same-length-2 : tie.Need-same-length-2 Inv-loop μ-loop
 same-length-2 c = c .before .loop .inv .same-length

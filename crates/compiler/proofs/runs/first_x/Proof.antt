@@ -1,7 +1,7 @@
 use borrow.Author.Tests.{eq-eqb, ne-eqb}
 use borrow.Author.Needs.{needs}
-use Rattle.compiler.proofs.emit.first_x.Statement.{statement}
-use Rattle.compiler.proofs.emit.first_x.Tie as tie
+use Rattle.compiler.proofs.runs.first_x.Statement.{statement}
+use Rattle.compiler.proofs.runs.first_x.Tie as tie
 
 sub-result : tie.Need-sub-result
 sub-result c = search needs

@@ -1,4 +1,4 @@
--- The ways through `measure`, `write` and `compile`, over plain variables: the two passes turn by turn, then what is returned.
+-- The ways through `line`, `measure`, `write` and `compile`, over plain variables: a line's counts, the two passes turn by turn, what is returned.
 use mathlib.Core.Bool.{Bool, true, false, cond}
 use mathlib.Core.List.{List, [], _∷_, _++_}
 use mathlib.Core.Path.{_≡_, refl, sym, ap, _∙_, subst}
@@ -25,15 +25,16 @@ use Rattle.compiler.specs.declared.answer.Compiled.{Compiled}
 use Rattle.compiler.specs.declared.answer.Compiled.the-variants.{Done, Refused, BadLine, Short}
 use Rattle.compiler.specs.declared.measure.Measured.{Measured}
 use Rattle.compiler.specs.declared.measure.Measured.the-variants.{Fault, Whole}
+use Rattle.compiler.specs.declared.runs.Counts.{Counts}
 use Rattle.compiler.specs.Compile.{result, intoOutput, fromReading, compileOf, measureFrom, measureOf, linesOf}
 use Rattle.compiler.specs.Demand3.{Promise}
 use Rattle.compiler.specs.Plain.{setTo, registersAfter}
 use Rattle.compiler.specs.Stream.{fill, lineEvents, stream, byteEvents, clocksOf}
-use Rattle.compiler.specs.Writes.{Wrote, Tracked, fillCount}
+use Rattle.compiler.specs.Writes.{Wrote, Tracked, counts, countsOf, fillCount, setLength}
 use Rattle.compiler.proofs.Clocks.{bytes-append, fill-length}
-use Rattle.compiler.proofs.Emits.{wrote-then, wrote-none}
+use Rattle.compiler.proofs.Writes.{wrote-then, wrote-none}
 use Rattle.compiler.proofs.Fits.{line-fits}
-use Rattle.compiler.proofs.Lines.{set-room}
+use Rattle.compiler.proofs.Lines.{set-room, fill-events, set-events, fill-byte-events, set-byte-events}
 use Rattle.compiler.proofs.Settings.{set-length, set-length-bound}
 use Rattle.compiler.proofs.Promise.{compile-draws}
 use Rattle.compiler.proofs.Tracked.{after-tracked, blank-tracked}
@@ -83,6 +84,23 @@ stream-limit pins (l ∷ ls) q s =
       line-limit pins l q (s .0),
       stream-limit pins ls (registersAfter l q) (s .1),
     )
+
+-- ---- a line's events, counted
+
+module _ (pins : ℕ) (l : Line) (q : Registers) (s : Valid l) (hp : pins ≤ 3) where
+  pub fill-line-counts :
+      (c0 c1 b0 b1 n : ℕ) → l ≡ Fill c0 c1 b0 b1 n → {k : Counts} → k ≡ counts (fillCount 10 q c0 c1 b0 b1) (fillCount 8 q c0 c1 b0 b1)
+      → k ≡ countsOf (lineEvents pins l q)
+  fill-line-counts c0 c1 b0 b1 n e h =
+      h
+      ∙ ap (λ (z : ℕ). counts z (fillCount 8 q c0 c1 b0 b1)) (fill-events pins l q c0 c1 b0 b1 n _ e refl)
+      ∙ ap (λ (z : ℕ). counts (length (lineEvents pins l q)) z) (fill-byte-events pins l q c0 c1 b0 b1 n _ s hp e refl)
+
+  pub set-line-counts :
+      Tracked q → (f n : ℕ) → l ≡ Set f n → {k : ℕ} → k ≡ setLength f → counts (k * 2 + 3) (k * 2 + 1) ≡ countsOf (lineEvents pins l q)
+  set-line-counts tracked f n e {k} h =
+      ap (λ (z : ℕ). counts z (k * 2 + 1)) (set-events pins l q f n k e h)
+      ∙ ap (λ (z : ℕ). counts (length (lineEvents pins l q)) z) (set-byte-events pins l q f n k s tracked hp e h)
 
 -- ---- measuring
 
@@ -142,38 +160,40 @@ module _ {text : List ℕ} {pins : ℕ} {q₀ : Registers} {at number : ℕ} {q 
     measuring-fault k h = sym (ap (measureFrom pins q n b) (reading-bad text at number l x e k h)) ∙ m .same
 
     module _ (y : Line) (h : x .parsed ≡ Good y) where
-      -- the sums stay small, whatever the list is
-      pub measuring-room : (ne : ℕ) → ne ≡ length (lineEvents pins y q) → n + ne < 2 ^ 32
-      measuring-room ne he = omega (arith, he, m .lines-left, m .limit, line-limit pins y q (line-valid text at l x e y h))
+      module _ (k : Counts) (counted : k ≡ countsOf (lineEvents pins y q)) where
+        events : k .events ≡ length (lineEvents pins y q)
+        events = ap (λ (z : Counts). z .events) counted
 
-      pub measuring-byte-room : (nb : ℕ) → nb ≡ byteEvents (lineEvents pins y q) → b + nb < 2 ^ 32
-      measuring-byte-room nb hb =
-          omega (arith, hb, m .fewer, measuring-room (length (lineEvents pins y q)) refl, bytes-limit (lineEvents pins y q))
+        bytes : k .bytes ≡ byteEvents (lineEvents pins y q)
+        bytes = ap (λ (z : Counts). z .bytes) counted
 
-      pub measuring-turn :
-          (ne nb : ℕ) (q′ : Registers)
-          → ne ≡ length (lineEvents pins y q)
-          → nb ≡ byteEvents (lineEvents pins y q)
-          → q′ ≡ registersAfter y q
-          → Measuring text pins q₀ (x .next) (number + 1) q′ (n + ne) (b + nb)
-      measuring-turn ne nb q′ he hb hq =
-          let ok = line-valid text at l x e y h in
-          let es = lineEvents pins y q in
-          record {
-            place = reading-next text at number l x e .1;
-            lines-left = omega (arith, m .lines-left, newlines-left text at l x e y h);
-            pins-fit = m .pins-fit;
-            tracked = subst Tracked (sym hq) (after-tracked y q (line-fits y ok) (m .tracked));
-            limit = omega (arith, m .limit, he, line-limit pins y q ok);
-            fewer = omega (arith, m .fewer, he, hb, bytes-limit es);
-            same =
-                ap (λ (z : Registers). measureFrom pins z (n + ne) (b + nb) (readingFrom (number + 1) (drop (x .next) text))) hq
-                ∙ ap (λ (z : ℕ). measureFrom pins (registersAfter y q) (n + z) (b + nb) (readingFrom (number + 1) (drop (x .next) text))) he
-                ∙ ap (λ (z : ℕ). measureFrom pins (registersAfter y q) (n + length es) (b + z) (readingFrom (number + 1) (drop (x .next) text))) hb
-                ∙ sym (measure-line pins q n b y (readingFrom (number + 1) (drop (x .next) text)))
-                ∙ sym (ap (measureFrom pins q n b) (reading-good text at number l x e y h))
-                ∙ m .same;
-          }
+        -- the sums stay small, whatever the list is
+        pub measuring-room : (n + k .events < 2 ^ 32) × (b + k .bytes < 2 ^ 32)
+        measuring-room =
+            let limit = line-limit pins y q (line-valid text at l x e y h) in
+            let fewer = bytes-limit (lineEvents pins y q) in
+            (omega (arith, m .lines-left, m .limit, events, limit), omega (arith, m .lines-left, m .limit, m .fewer, events, bytes, limit, fewer))
+
+        pub measuring-turn :
+            (q′ : Registers) → q′ ≡ registersAfter y q → Measuring text pins q₀ (x .next) (number + 1) q′ (n + k .events) (b + k .bytes)
+        measuring-turn q′ hq =
+            let ok = line-valid text at l x e y h in
+            let es = lineEvents pins y q in
+            let rest = readingFrom (number + 1) (drop (x .next) text) in
+            record {
+              place = reading-next text at number l x e .1;
+              lines-left = omega (arith, m .lines-left, newlines-left text at l x e y h);
+              pins-fit = m .pins-fit;
+              tracked = subst Tracked (sym hq) (after-tracked y q (line-fits y ok) (m .tracked));
+              limit = omega (arith, m .limit, events, line-limit pins y q ok);
+              fewer = omega (arith, m .fewer, events, bytes, bytes-limit es);
+              same =
+                  ap (λ (z : Registers). measureFrom pins z (n + k .events) (b + k .bytes) rest) hq
+                  ∙ ap (λ (z : Counts). measureFrom pins (registersAfter y q) (n + z .events) (b + z .bytes) rest) counted
+                  ∙ sym (measure-line pins q n b y rest)
+                  ∙ sym (ap (measureFrom pins q n b) (reading-good text at number l x e y h))
+                  ∙ m .same;
+            }
 
 -- ---- writing
 
@@ -213,49 +233,51 @@ writing-start text pins q out good room =
       rest = λ l j w. w;
     }
 
-module _ {text : List ℕ} {pins : ℕ} {q₀ : Registers} {out₀ : List ℕ} {at here : ℕ} {q : Registers} {out : List ℕ} (m : Writing text pins q₀ out₀ at here q out) where
-  pub writing-end : length text ≤ at → out ≡ sets out₀ 0 (stream pins (linesOf (readingOf text)) q₀)
-  unfolding stream
-  writing-end h =
-      let none : m .left ≡ [] = same-lines (m .left) [] (sym (m .reads) ∙ reading-end text at (m .number) h) in
-      m .rest out here (subst (λ (ls : List Line). Wrote out here (stream pins ls q) out here) (sym none) (wrote-none out here)) .list
+module _ {text : List ℕ} {pins : ℕ} {q₀ : Registers} {out₀ : List ℕ} {at here : ℕ} {q : Registers} {out : List ℕ}
+    (m : Writing text pins q₀ out₀ at here q out)
+  where
+    pub writing-end : length text ≤ at → out ≡ sets out₀ 0 (stream pins (linesOf (readingOf text)) q₀)
+    unfolding stream
+    writing-end h =
+        let none : m .left ≡ [] = same-lines (m .left) [] (sym (m .reads) ∙ reading-end text at (m .number) h) in
+        m .rest out here (subst (λ (ls : List Line). Wrote out here (stream pins ls q) out here) (sym none) (wrote-none out here)) .list
 
-  -- the line at that place
-  module _ (l : at < length text) (x : LineAt) (e : x ≡ lineAt text at) where
-    pub writing-no-fault : (k : ℕ) → x .parsed ≡ Bad k → ⊥
-    writing-no-fault k h = not-lines k (m .number) (m .left) (sym (reading-bad text at (m .number) l x e k h) ∙ m .reads)
+    -- the line at that place
+    module _ (l : at < length text) (x : LineAt) (e : x ≡ lineAt text at) where
+      pub writing-no-fault : (k : ℕ) → x .parsed ≡ Bad k → ⊥
+      writing-no-fault k h = not-lines k (m .number) (m .left) (sym (reading-bad text at (m .number) l x e k h) ∙ m .reads)
 
-    module _ (y : Line) (h : x .parsed ≡ Good y) where
-      rest-of : Behind y (readingFrom (m .number + 1) (drop (x .next) text)) (m .left)
-      rest-of = behind y _ (m .left) (sym (reading-good text at (m .number) l x e y h) ∙ m .reads)
+      module _ (y : Line) (h : x .parsed ≡ Good y) where
+        rest-of : Behind y (readingFrom (m .number + 1) (drop (x .next) text)) (m .left)
+        rest-of = behind y _ (m .left) (sym (reading-good text at (m .number) l x e y h) ∙ m .reads)
 
-      events-are : stream pins (m .left) q ≡ lineEvents pins y q ++ stream pins (rest-of .rest) (registersAfter y q)
-      unfolding stream
-      events-are = ap (λ (ls : List Line). stream pins ls q) (rest-of .whole)
+        events-are : stream pins (m .left) q ≡ lineEvents pins y q ++ stream pins (rest-of .rest) (registersAfter y q)
+        unfolding stream
+        events-are = ap (λ (ls : List Line). stream pins ls q) (rest-of .whole)
 
-      events-count : length (stream pins (m .left) q) ≡ length (lineEvents pins y q) + length (stream pins (rest-of .rest) (registersAfter y q))
-      events-count = ap length events-are ∙ length-append (lineEvents pins y q) (stream pins (rest-of .rest) (registersAfter y q))
+        events-count : length (stream pins (m .left) q) ≡ length (lineEvents pins y q) + length (stream pins (rest-of .rest) (registersAfter y q))
+        events-count = ap length events-are ∙ length-append (lineEvents pins y q) (stream pins (rest-of .rest) (registersAfter y q))
 
-      pub writing-room : Valid y × (here + length (lineEvents pins y q) ≤ length out)
-      writing-room = (line-valid text at l x e y h, omega (arith, m .room, events-count))
+        pub writing-room : Valid y × (here + length (lineEvents pins y q) ≤ length out)
+        writing-room = (line-valid text at l x e y h, omega (arith, m .room, events-count))
 
-      pub writing-turn :
-          (out′ : List ℕ) (here′ : ℕ) (q′ : Registers)
-          → length out′ ≡ length out
-          → Wrote out here (lineEvents pins y q) out′ here′
-          → q′ ≡ registersAfter y q
-          → Writing text pins q₀ out₀ (x .next) here′ q′ out′
-      writing-turn out′ here′ q′ same wrote hq =
-          subst (λ (z : Registers). Writing text pins q₀ out₀ (x .next) here′ z out′) (sym hq)
-          (record {
-            place = reading-next text at (m .number) l x e .1;
-            number = m .number + 1;
-            left = rest-of .rest;
-            reads = rest-of .reads;
-            same-length = same ∙ m .same-length;
-            room = omega (arith, m .room, events-count, wrote .next, same);
-            rest = λ k j w. m .rest k j (subst (λ (es : List ℕ). Wrote out here es k j) (sym events-are) (wrote-then wrote w));
-          })
+        pub writing-turn :
+            (out′ : List ℕ) (here′ : ℕ) (q′ : Registers)
+            → length out′ ≡ length out
+            → Wrote out here (lineEvents pins y q) out′ here′
+            → q′ ≡ registersAfter y q
+            → Writing text pins q₀ out₀ (x .next) here′ q′ out′
+        writing-turn out′ here′ q′ same wrote hq =
+            subst (λ (z : Registers). Writing text pins q₀ out₀ (x .next) here′ z out′) (sym hq)
+            (record {
+              place = reading-next text at (m .number) l x e .1;
+              number = m .number + 1;
+              left = rest-of .rest;
+              reads = rest-of .reads;
+              same-length = same ∙ m .same-length;
+              room = omega (arith, m .room, events-count, wrote .next, same);
+              rest = λ k j w. m .rest k j (subst (λ (es : List ℕ). Wrote out here es k j) (sym events-are) (wrote-then wrote w));
+            })
 
 -- ---- `compile`: the text that neither 2 nor 9 refuses
 
