@@ -25,7 +25,7 @@ use Rattle.chip.specs.Promised.{commandOf}
 use Rattle.chip.proofs.Plays.{plays-weaken, message-plays}
 use Rattle.chip.proofs.Rows.{row-command, return-command, page-command}
 use Rattle.compiler.specs.Plain.{setTo}
-use Rattle.compiler.specs.Stream.{pageOf, leave, change, rowBytes, setCommands}
+use Rattle.compiler.specs.Stream.{pageOf, leave, enter, rowBytes, setCommands}
 use Rattle.compiler.proofs.Fill.{Shows}
 use Rattle.compiler.proofs.Fills.{seen-allowed, seen-page}
 use Rattle.compiler.proofs.Sets.{at, simple-fits, aimed-at, partsFor, isApart, SimpleRow, simple-row, shows-target, blank-at, blank-self, put-at}
@@ -40,10 +40,10 @@ module _ (f : ℕ) (row : SimpleRow f) (t r : Registers) (zero-page : r .h ≡ 0
   abbrev Aimed : Registers → Type 0
   Aimed z = (g : ℕ) → (g ≡ H → ⊥) → at z g ≡ cond (hasField g (partsFor f)) (at t g) (at r g)
 
-  in-page-0 : pageOf (rowFor f) ≡ 0 → Aimed (commanded (change 0 (pageOf (rowFor f)) ++ rowByte (rowNo (rowFor f)) t ∷ leave (pageOf (rowFor f))) r)
+  in-page-0 : pageOf (rowFor f) ≡ 0 → Aimed (commanded (enter (pageOf (rowFor f)) ++ rowByte (rowNo (rowFor f)) t ∷ leave (pageOf (rowFor f))) r)
   unfolding Plays.commanded
   in-page-0 e g n =
-      subst (λ (p : ℕ). at (commanded (change 0 p ++ rowByte (rowNo (rowFor f)) t ∷ leave p) r) g ≡ cond (hasField g (partsFor f)) (at t g) (at r g)) (sym e)
+      subst (λ (p : ℕ). at (commanded (enter p ++ rowByte (rowNo (rowFor f)) t ∷ leave p) r) g ≡ cond (hasField g (partsFor f)) (at t g) (at r g)) (sym e)
       (ap (λ (z : Registers). at z g) (row-command (rowFor f) (row .listed) t fit r (omega arith) (e ∙ sym zero-page)) ∙ aimed-at (partsFor f) (row .registers-only) t r g)
 
   there-and-back : (p : ℕ) → p ≤ 4 → pageOf (rowFor f) ≡ p → commanded ((8 + p) ∷ rowByte (rowNo (rowFor f)) t ∷ 1 ∷ []) r ≡ put H 0 (aimed (partsFor f) t (put H p r))
@@ -55,7 +55,7 @@ module _ (f : ℕ) (row : SimpleRow f) (t r : Registers) (zero-page : r .h ≡ 0
       (subst (λ (h : ℕ). h ≤ 4) (sym (aimed-at (partsFor f) (row .registers-only) t (put H p r) H ∙ ap (λ (b : Bool). cond b (at t H) p) (row .not-page))) l)
 
   in-other-page :
-      (pageOf (rowFor f) ≡ 0 → ⊥) → Aimed (commanded (change 0 (pageOf (rowFor f)) ++ rowByte (rowNo (rowFor f)) t ∷ leave (pageOf (rowFor f))) r)
+      (pageOf (rowFor f) ≡ 0 → ⊥) → Aimed (commanded (enter (pageOf (rowFor f)) ++ rowByte (rowNo (rowFor f)) t ∷ leave (pageOf (rowFor f))) r)
   in-other-page d g n =
       let p = pageOf (rowFor f) in
       ap (λ (l : List ℕ). at (commanded l r) g) shape
@@ -64,13 +64,13 @@ module _ (f : ℕ) (row : SimpleRow f) (t r : Registers) (zero-page : r .h ≡ 0
       ∙ aimed-at (partsFor f) (row .registers-only) t (put H p r) g
       ∙ ap (λ (x : ℕ). cond (hasField g (partsFor f)) (at t g) x) (put-other H p r g n)
     where
-      shape : change 0 (pageOf (rowFor f)) ++ rowByte (rowNo (rowFor f)) t ∷ leave (pageOf (rowFor f)) ≡ (8 + pageOf (rowFor f)) ∷ rowByte (rowNo (rowFor f)) t ∷ 1 ∷ []
-      shape = simp (ne-eqb (pageOf (rowFor f)) 0 d, ne-eqb 0 (pageOf (rowFor f)) (λ q. d (sym q)))
+      shape : enter (pageOf (rowFor f)) ++ rowByte (rowNo (rowFor f)) t ∷ leave (pageOf (rowFor f)) ≡ (8 + pageOf (rowFor f)) ∷ rowByte (rowNo (rowFor f)) t ∷ 1 ∷ []
+      shape = simp (ne-eqb (pageOf (rowFor f)) 0 d)
 
-  row-aims : Aimed (commanded (change 0 (pageOf (rowFor f)) ++ rowByte (rowNo (rowFor f)) t ∷ leave (pageOf (rowFor f))) r)
+  row-aims : Aimed (commanded (enter (pageOf (rowFor f)) ++ rowByte (rowNo (rowFor f)) t ∷ leave (pageOf (rowFor f))) r)
   row-aims = go (ℕ-discrete (pageOf (rowFor f)) 0)
     where
-      go : Dec (pageOf (rowFor f) ≡ 0) → Aimed (commanded (change 0 (pageOf (rowFor f)) ++ rowByte (rowNo (rowFor f)) t ∷ leave (pageOf (rowFor f))) r)
+      go : Dec (pageOf (rowFor f) ≡ 0) → Aimed (commanded (enter (pageOf (rowFor f)) ++ rowByte (rowNo (rowFor f)) t ∷ leave (pageOf (rowFor f))) r)
       go (yes e) = in-page-0 e
       go (no d) = in-other-page d
 
@@ -92,10 +92,10 @@ pub record SetFits (f n : ℕ) : Type 0 where
   pub not-y : f ≡ Y → ⊥
   pub value : n ≤ getD limits f 0
 
-plain-bytes : (f n : ℕ) → isGrey f ≡ false → (q : Registers) → setCommands f (setTo f n q) ≡ 1 ∷ rowBytes 0 (rowFor f ∷ []) (put f n q)
+plain-bytes : (f n : ℕ) → isGrey f ≡ false → (q : Registers) → setCommands f (setTo f n q) ≡ 1 ∷ rowBytes (rowFor f ∷ []) (put f n q)
 unfolding setTo
 plain-bytes f n e q =
-    ap (λ (b : Bool). 1 ∷ rowBytes 0 (cond b (rowFor GR ∷ rowFor f ∷ []) (rowFor f ∷ [])) (cond b (put f n (put GR (f - GS0) q)) (put f n q))) e
+    ap (λ (b : Bool). 1 ∷ rowBytes (cond b (rowFor GR ∷ rowFor f ∷ []) (rowFor f ∷ [])) (cond b (put f n (put GR (f - GS0) q)) (put f n q))) e
 
 set-simple :
     (f n : ℕ) → SetFits f n → isGrey f ≡ false → isApart f ≡ false → (r : Registers) → r .h ≤ 4 → allowedRegisters r ≡ true
@@ -104,11 +104,11 @@ unfolding Plays.commanded setTo
 set-simple f n fits plain apart r page ok =
     subst
     (λ (b : Bool).
-    blank (commanded (1 ∷ rowBytes 0 (cond b (rowFor GR ∷ rowFor f ∷ []) (rowFor f ∷ [])) (cond b (put f n (put GR (f - GS0) (blank r))) (put f n (blank r)))) r)
+    blank (commanded (1 ∷ rowBytes (cond b (rowFor GR ∷ rowFor f ∷ []) (rowFor f ∷ [])) (cond b (put f n (put GR (f - GS0) (blank r))) (put f n (blank r)))) r)
     ≡ cond b (put f n (put GR (f - GS0) (blank r))) (put f n (blank r)))
     (sym plain)
-    (ap (λ (z : Registers). blank (commanded (rowBytes 0 (rowFor f ∷ []) (put f n (blank r))) z)) (return-command r page)
-    ∙ shows-target (commanded (rowBytes 0 (rowFor f ∷ []) (put f n (blank r))) (put H 0 r)) (put f n (blank r)) (put-blank f n (blank r) (fits .not-page) (fits .not-x) (fits .not-y) refl) each)
+    (ap (λ (z : Registers). blank (commanded (rowBytes (rowFor f ∷ []) (put f n (blank r))) z)) (return-command r page)
+    ∙ shows-target (commanded (rowBytes (rowFor f ∷ []) (put f n (blank r))) (put H 0 r)) (put f n (blank r)) (put-blank f n (blank r) (fits .not-page) (fits .not-x) (fits .not-y) refl) each)
   where
     row : SimpleRow f
     row = simple-row f (fits .place) apart
@@ -122,7 +122,7 @@ set-simple f n fits plain apart r page ok =
         put-other H 0 r g h ∙ sym (blank-at r g h x y)
         ∙ sym (put-other f n (blank r) g (λ q. true-false (sym (row .own) ∙ ap (λ (k : ℕ). hasField k (partsFor f)) (sym q) ∙ e)))
 
-    each : (g : ℕ) → g < 29 → (g ≡ H → ⊥) → (g ≡ X → ⊥) → (g ≡ Y → ⊥) → at (commanded (rowBytes 0 (rowFor f ∷ []) (put f n (blank r))) (put H 0 r)) g ≡ at (put f n (blank r)) g
+    each : (g : ℕ) → g < 29 → (g ≡ H → ⊥) → (g ≡ X → ⊥) → (g ≡ Y → ⊥) → at (commanded (rowBytes (rowFor f ∷ []) (put f n (blank r))) (put H 0 r)) g ≡ at (put f n (blank r)) g
     each g l h x y = row-aims f row (put f n (blank r)) (put H 0 r) refl t-ok g h ∙ other (hasField g (partsFor f)) g refl h x y
 
 -- ---- the grey registers
@@ -209,8 +209,8 @@ module _ (k n : ℕ) (lk : k < 4) (ln : n ≤ 63) (r : Registers) (page : r .h �
 
   grey-bytes : (t : Registers) → setCommands (GS0 + k) t ≡ 1 ∷ 11 ∷ rowByte (rowNo 16) t ∷ rowByte (rowNo 17) t ∷ 1 ∷ []
   grey-bytes t =
-      ap (λ (b : Bool). 1 ∷ rowBytes 0 (cond b (rowFor GR ∷ rowFor (GS0 + k) ∷ []) (rowFor (GS0 + k) ∷ [])) t) is-grey
-      ∙ ap (λ (i : ℕ). 1 ∷ rowBytes 0 (16 ∷ i ∷ []) t) (grey-row k lk)
+      ap (λ (b : Bool). 1 ∷ rowBytes (cond b (rowFor GR ∷ rowFor (GS0 + k) ∷ []) (rowFor (GS0 + k) ∷ [])) t) is-grey
+      ∙ ap (λ (i : ℕ). 1 ∷ rowBytes (16 ∷ i ∷ []) t) (grey-row k lk)
 
   set-grey : blank (commanded (setCommands (GS0 + k) (setTo (GS0 + k) n (blank r))) r) ≡ setTo (GS0 + k) n (blank r)
   set-grey =
@@ -244,15 +244,12 @@ bytes-append [] ys a b = b
 bytes-append (x ∷ xs) ys a b = (a .0, bytes-append xs ys (a .1) b)
 
 -- the page of a row that there is
-change-bytes : (p q : ℕ) → q ≤ 4 → Bytes (change p q)
-change-bytes p q h = go (eqb p q) (eqb p 0) (eqb q 0)
+enter-bytes : (q : ℕ) → q ≤ 4 → Bytes (enter q)
+enter-bytes q h = go (eqb q 0)
   where
-    go : (a b c : Bool) → Bytes (cond a [] (cond b [] (1 ∷ []) ++ cond c [] ((8 + q) ∷ [])))
-    go true b c = tt
-    go false true true = tt
-    go false true false = (omega arith, tt)
-    go false false true = (omega arith, tt)
-    go false false false = (omega arith, (omega arith, tt))
+    go : (b : Bool) → Bytes (cond b [] ((8 + q) ∷ []))
+    go true = tt
+    go false = (omega arith, tt)
 
 leave-bytes : (p : ℕ) → Bytes (leave p)
 leave-bytes p = go (eqb p 0)
@@ -261,10 +258,10 @@ leave-bytes p = go (eqb p 0)
     go true = tt
     go false = (omega arith, tt)
 
-simple-bytes : (f : ℕ) → SimpleRow f → (t : Registers) → allowedRegisters t ≡ true → Bytes (1 ∷ rowBytes 0 (rowFor f ∷ []) t)
+simple-bytes : (f : ℕ) → SimpleRow f → (t : Registers) → allowedRegisters t ≡ true → Bytes (1 ∷ rowBytes (rowFor f ∷ []) t)
 simple-bytes f row t ok = (
   omega arith,
-  bytes-append (change 0 (pageOf (rowFor f))) (rowByte (rowNo (rowFor f)) t ∷ leave (pageOf (rowFor f))) (change-bytes 0 (pageOf (rowFor f)) (row .page))
+  bytes-append (enter (pageOf (rowFor f))) (rowByte (rowNo (rowFor f)) t ∷ leave (pageOf (rowFor f))) (enter-bytes (pageOf (rowFor f)) (row .page))
       (row-byte (rowFor f) (row .listed) t (simple-fits (partsFor f) (row .registers-only) t ok), leave-bytes (pageOf (rowFor f))),
 )
 

@@ -18,7 +18,7 @@ use Rattle.registers.specs.Table.Target.{selected}
 use Rattle.registers.proofs.Below.{allBelow, below-at, and-right}
 use Rattle.registers.proofs.Within.{both-left}
 use Rattle.compiler.specs.Plain.{setTo}
-use Rattle.compiler.specs.Stream.{pageOf, leave, enter, change, rowBytes, setCommands}
+use Rattle.compiler.specs.Stream.{pageOf, leave, enter, rowBytes, setCommands}
 use Rattle.compiler.specs.Writes.{setLength}
 
 -- ---- the registers after a set
@@ -101,28 +101,27 @@ pub grey-commands : (f s l : ℕ) (t : Registers) → isGrey f ≡ true → s �
 grey-commands f s l t g e d =
     ap (λ (n : ℕ). 1 ∷ 11 ∷ n ∷ l ∷ 1 ∷ []) e
     ∙ ap (λ (n : ℕ). 1 ∷ 11 ∷ rowByte (getD rows 16 noRow) t ∷ n ∷ 1 ∷ []) d
-    ∙ sym (ap (λ (b : Bool). 1 ∷ rowBytes 0 (cond b (16 ∷ rowFor f ∷ []) (rowFor f ∷ [])) t) g
-    ∙ ap (λ (i : ℕ). 1 ∷ rowBytes 0 (16 ∷ i ∷ []) t) (grey-row f (omega (arith, below)) g))
+    ∙ sym (ap (λ (b : Bool). 1 ∷ rowBytes (cond b (16 ∷ rowFor f ∷ []) (rowFor f ∷ [])) t) g
+    ∙ ap (λ (i : ℕ). 1 ∷ rowBytes (16 ∷ i ∷ []) t) (grey-row f (omega (arith, below)) g))
   where
     below : f ≤ 24
     below = leb→le f 24 (and-right (leb GS0 f) (leb f 24) (subst T (sym g) tt))
 
 module _ (f p b : ℕ) (t : Registers) (g : isGrey f ≡ false) (i : ℕ) (row : i ≡ rowFor f) (page : p ≡ pageOf i) (byte : b ≡ rowByte (getD rows i noRow) t) where
-  in-row : 1 ∷ change 0 p ++ b ∷ leave p ≡ setCommands f t
+  in-row : 1 ∷ enter p ++ b ∷ leave p ≡ setCommands f t
   in-row =
-      ap (λ (n : ℕ). 1 ∷ change 0 p ++ n ∷ leave p) byte
-      ∙ ap (λ (q : ℕ). 1 ∷ change 0 q ++ rowByte (getD rows i noRow) t ∷ leave q) page
-      ∙ ap (λ (j : ℕ). 1 ∷ rowBytes 0 (j ∷ []) t) row
-      ∙ sym (ap (λ (b : Bool). 1 ∷ rowBytes 0 (cond b (16 ∷ rowFor f ∷ []) (rowFor f ∷ [])) t) g)
+      ap (λ (n : ℕ). 1 ∷ enter p ++ n ∷ leave p) byte
+      ∙ ap (λ (q : ℕ). 1 ∷ enter q ++ rowByte (getD rows i noRow) t ∷ leave q) page
+      ∙ ap (λ (j : ℕ). 1 ∷ rowBytes (j ∷ []) t) row
+      ∙ sym (ap (λ (b : Bool). 1 ∷ rowBytes (cond b (16 ∷ rowFor f ∷ []) (rowFor f ∷ [])) t) g)
 
   pub page-0-commands : p ≡ 0 → 1 ∷ b ∷ [] ≡ setCommands f t
-  page-0-commands e = sym (ap (λ (q : ℕ). 1 ∷ change 0 q ++ b ∷ leave q) e) ∙ in-row
+  page-0-commands e = sym (ap (λ (q : ℕ). 1 ∷ enter q ++ b ∷ leave q) e) ∙ in-row
 
   pub page-commands : (n : ℕ) → n ≡ 8 + p → (p ≡ 0 → ⊥) → 1 ∷ n ∷ b ∷ 1 ∷ [] ≡ setCommands f t
   page-commands n e d =
       ap (λ (m : ℕ). 1 ∷ m ∷ b ∷ 1 ∷ []) e
-      ∙ sym (ap (λ (c : Bool). 1 ∷ cond c [] (enter p) ++ b ∷ leave p) (ne-eqb 0 p (λ z. d (sym z)))
-      ∙ ap (λ (c : Bool). 1 ∷ cond c [] ((8 + p) ∷ []) ++ b ∷ cond c [] (1 ∷ [])) (ne-eqb p 0 d))
+      ∙ sym (ap (λ (c : Bool). 1 ∷ cond c [] ((8 + p) ∷ []) ++ b ∷ cond c [] (1 ∷ [])) (ne-eqb p 0 d))
       ∙ in-row
 
 -- ---- how many commands a set has

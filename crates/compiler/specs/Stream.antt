@@ -45,20 +45,27 @@ fill pins r c0 c1 b0 b1 n =
 abbrev pub pageOf : ℕ → ℕ
 pageOf i = getD rows i noRow .page
 
--- from page p to page q: page return unless page 0, then the page command unless page 0
-abbrev pub leave : ℕ → List ℕ
-leave p = cond (eqb p 0) [] (1 ∷ [])
-
+-- the page command unless page 0
 abbrev pub enter : ℕ → List ℕ
 enter q = cond (eqb q 0) [] ((8 + q) ∷ [])
 
-abbrev pub change : ℕ → ℕ → List ℕ
-change p q = cond (eqb p q) [] (leave p ++ enter q)
+-- page return unless page 0
+abbrev pub leave : ℕ → List ℕ
+leave p = cond (eqb p 0) [] (1 ∷ [])
 
--- the rows in order, each in its page, and back to page 0
-abbrev pub rowBytes : ℕ → List ℕ → Registers → List ℕ
-rowBytes p [] t = leave p
-rowBytes p (i ∷ rest) t = change p (pageOf i) ++ rowByte (getD rows i noRow) t ∷ rowBytes (pageOf i) rest t
+-- between a row of page p and one of page q, where they differ: page return, then the page command unless page 0
+abbrev pub change : ℕ → ℕ → List ℕ
+change p q = cond (eqb p q) [] (1 ∷ enter q)
+
+-- the rows behind one of page p, and back to page 0
+abbrev pub moreRows : ℕ → List ℕ → Registers → List ℕ
+moreRows p [] t = leave p
+moreRows p (i ∷ rest) t = change p (pageOf i) ++ rowByte (getD rows i noRow) t ∷ moreRows (pageOf i) rest t
+
+-- the rows in order from page 0, each in its page
+abbrev pub rowBytes : List ℕ → Registers → List ℕ
+rowBytes [] t = []
+rowBytes (i ∷ rest) t = enter (pageOf i) ++ rowByte (getD rows i noRow) t ∷ moreRows (pageOf i) rest t
 
 -- a grey register is selected first
 abbrev pub rowsFor : ℕ → List ℕ
@@ -66,7 +73,7 @@ rowsFor f = cond (isGrey f) (rowFor GR ∷ rowFor f ∷ []) (rowFor f ∷ [])
 
 -- t is what the registers are to be
 abbrev pub setCommands : ℕ → Registers → List ℕ
-setCommands f t = 1 ∷ rowBytes 0 (rowsFor f) t
+setCommands f t = 1 ∷ rowBytes (rowsFor f) t
 
 -- ---- the list
 
