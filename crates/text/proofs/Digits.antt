@@ -10,7 +10,7 @@ use lib.Dec.{eqb}
 use lib.ListN.{length, length-append}
 use Rattle.text.specs.Text.{countOf}
 use Rattle.text.specs.Decimal.{isDigit, isLeading, worth, digit, decimal}
-use Rattle.text.specs.Printed.{digitsUpTo, decimalOf, allDigits, worthAfter, wellLed, Spells}
+use Rattle.text.specs.Printed.{digitsUpTo, decimalOf, allDigits, valueAfter, noLeadingZero, IsDecimalOf}
 use Rattle.text.proofs.Numbers.{and-both, digit-bounds, leading-bounds, bounds-leading}
 use Rattle.text.proofs.Printing.{is-digit}
 
@@ -63,12 +63,12 @@ all-append (x ∷ xs) ys hx hy =
     let both = and-both (isDigit x) (allDigits xs) hx in
     rw (both .0) (all-append xs ys (both .1) hy)
 
-worth-append : (m : ℕ) (xs ys : List ℕ) → worthAfter m (xs ++ ys) ≡ worthAfter (worthAfter m xs) ys
+worth-append : (m : ℕ) (xs ys : List ℕ) → valueAfter m (xs ++ ys) ≡ valueAfter (valueAfter m xs) ys
 worth-append m [] ys = refl
 worth-append m (x ∷ xs) ys = worth-append (m * 10 + worth x) xs ys
 
 -- a digit that leads still leads with digits after it
-led-append : (d : ℕ) (ds : List ℕ) (e : ℕ) → isLeading d ≡ true → wellLed ((d ∷ ds) ++ (e ∷ [])) ≡ true
+led-append : (d : ℕ) (ds : List ℕ) (e : ℕ) → isLeading d ≡ true → noLeadingZero ((d ∷ ds) ++ (e ∷ [])) ≡ true
 led-append d [] e h = h
 led-append d (x ∷ ds) e h = h
 
@@ -76,7 +76,7 @@ led-append d (x ∷ ds) e h = h
 data Led : List ℕ → Type 0 where
   led : {d : ℕ} {ds : List ℕ} → isLeading d ≡ true → Led (d ∷ ds)
 
-more-led : (xs : List ℕ) (e : ℕ) → Led xs → (Led (xs ++ (e ∷ []))) × (wellLed (xs ++ (e ∷ [])) ≡ true)
+more-led : (xs : List ℕ) (e : ℕ) → Led xs → (Led (xs ++ (e ∷ []))) × (noLeadingZero (xs ++ (e ∷ [])) ≡ true)
 more-led xs e (led {d} {ds} h) = (led h, led-append d ds e h)
 
 decimal-led : (n : ℕ) → 0 < n → Led (decimalOf n)
@@ -85,20 +85,20 @@ decimal-led =
     (λ n h p. rw (decimal-one n h) (led (bounds-leading (digit n) (omega arith) (omega arith))))
     (λ n h rest p. rw (decimal-more n h) (more-led (decimalOf (n / 10)) (digit (n % 10)) (rest (omega arith)) .0))
 
-pub decimal-spells : (n : ℕ) → Spells (decimalOf n) n
-decimal-spells =
-    by-tens (λ n. Spells (decimalOf n) n)
-    (λ n h. rw (decimal-one n h) (record { digits = rw (is-digit n h); well-led = refl; value = omega arith }))
+pub decimal-denotes : (n : ℕ) → IsDecimalOf (decimalOf n) n
+decimal-denotes =
+    by-tens (λ n. IsDecimalOf (decimalOf n) n)
+    (λ n h. rw (decimal-one n h) (record { digits = rw (is-digit n h); no-leading-zero = refl; value = omega arith }))
     (λ n h rest. rw (decimal-more n h) (record {
       digits = all-append (decimalOf (n / 10)) (digit (n % 10) ∷ []) (rest .digits) (rw (is-digit (n % 10) (omega arith)));
-      well-led = more-led (decimalOf (n / 10)) (digit (n % 10)) (decimal-led (n / 10) (omega arith)) .1;
+      no-leading-zero = more-led (decimalOf (n / 10)) (digit (n % 10)) (decimal-led (n / 10) (omega arith)) .1;
       value = worth-append 0 (decimalOf (n / 10)) (digit (n % 10) ∷ []) ∙ rw (rest .value) (omega arith);
     }))
 
 -- ---- and nothing else does
 
 -- digits written after a number above 0
-spelt-after : (m : ℕ) (ds : List ℕ) → 0 < m → allDigits ds ≡ true → decimalOf (worthAfter m ds) ≡ decimalOf m ++ ds
+spelt-after : (m : ℕ) (ds : List ℕ) → 0 < m → allDigits ds ≡ true → decimalOf (valueAfter m ds) ≡ decimalOf m ++ ds
 spelt-after m [] p h = sym (append-nil (decimalOf m))
 spelt-after m (d ∷ ds) p h =
     let both = and-both (isDigit d) (allDigits ds) h in
@@ -110,17 +110,17 @@ spelt-after m (d ∷ ds) p h =
     ∙ ap (λ (l : List ℕ). l ++ ds) one-more
     ∙ append-assoc (decimalOf m) (d ∷ []) ds
 
-pub spells-decimal : (ds : List ℕ) (n : ℕ) → Spells ds n → ds ≡ decimalOf n
-spells-decimal [] n s = let z : _≡_ {A = ℕ} 0 1 = cc (s .well-led) in absurd (omega arith)
-spells-decimal (d ∷ []) n s =
+pub denotes-decimal : (ds : List ℕ) (n : ℕ) → IsDecimalOf ds n → ds ≡ decimalOf n
+denotes-decimal [] n s = let z : _≡_ {A = ℕ} 0 1 = cc (s .no-leading-zero) in absurd (omega arith)
+denotes-decimal (d ∷ []) n s =
     let bounds = digit-bounds d (and-both (isDigit d) true (s .digits) .0) in
     let same : digit (worth d) ≡ d = omega arith in
     let value : worth d ≡ n = omega (arith, s .value) in
     rw (← value) (sym (decimal-one (worth d) (omega arith) ∙ rw same))
-spells-decimal (d ∷ e ∷ ds) n s =
-    let bounds = leading-bounds d (s .well-led) in
+denotes-decimal (d ∷ e ∷ ds) n s =
+    let bounds = leading-bounds d (s .no-leading-zero) in
     let same : digit (worth d) ≡ d = omega arith in
-    let from : worthAfter (worth d) (e ∷ ds) ≡ n = ap (λ (m : ℕ). worthAfter m (e ∷ ds)) (omega arith) ∙ s .value in
+    let from : valueAfter (worth d) (e ∷ ds) ≡ n = ap (λ (m : ℕ). valueAfter m (e ∷ ds)) (omega arith) ∙ s .value in
     let rest : allDigits (e ∷ ds) ≡ true = and-both (isDigit d) (allDigits (e ∷ ds)) (s .digits) .1 in
     sym (ap decimalOf (sym from) ∙ spelt-after (worth d) (e ∷ ds) (omega arith) rest ∙ rw (decimal-one (worth d) (omega arith), same))
 
@@ -156,7 +156,7 @@ digits-free b (d ∷ ds) l h =
     rw (ne-eqb d b (λ e. omega arith)) (digits-free b ds l (both .1))
 
 pub number-free : (b n : ℕ) → b < 48 → countOf b (decimalOf n) ≡ 0
-number-free b n l = digits-free b (decimalOf n) l (decimal-spells n .digits)
+number-free b n l = digits-free b (decimalOf n) l (decimal-denotes n .digits)
 
 -- ---- the short numbers of lists
 

@@ -1,8 +1,10 @@
+pub mod Digits
 pub mod Finding
-pub mod Splitting
 pub mod Joining
+pub mod Laws
 pub mod Numbers
 pub mod Printing
-pub mod Digits
-pub mod Writing
+pub mod Splitting
 pub mod Whole
+pub mod Writing
+pub mod Wrong

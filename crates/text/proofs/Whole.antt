@@ -2,7 +2,7 @@
 use mathlib.Core.Path.{_≡_, refl, sym, ap, _∙_}
 use mathlib.Core.Bool.{Bool, true, false, cond}
 use mathlib.Core.List.{List}
-use Prim.Native.Nat.{ℕ, zero, suc, _+_, _≤_, _<_}
+use Prim.Native.Nat.{ℕ, zero, suc, _≤_, _<_}
 use native.Mathlib.Nat.{zero-add}
 use native.Mathlib.Omega.{arith}
 use borrow.Author.Tests.{le-leb, lt-leb, leb-true}
@@ -10,12 +10,12 @@ use lib.Dec.{leb}
 use lib.ListN.{length, take}
 use lib.Seq.{sets}
 use Rattle.text.specs.declared.print.Written.the-variants.{Text, Short, Refused}
-use Rattle.text.specs.Printed.{top, Wrote, placed, ifRoom, Outcome, outcome, wholeText}
-use Rattle.text.proofs.Writing.{past-fits, wrote-read}
+use Rattle.text.specs.Printed.{top, Wrote, Outcome, outcome, wholeText}
+use Rattle.text.proofs.Writing.{after-fits, wrote-read}
 
 -- the place after a text that was written from the start on is its length
 whole-length : {l m : List ℕ} {n : ℕ} (xs : List ℕ) → length xs ≤ top → Wrote l 0 xs m n → n ≡ length xs
-whole-length xs h w = w .next ∙ past-fits 0 (length xs) (omega arith) ∙ zero-add (length xs)
+whole-length xs h w = w .next ∙ after-fits 0 (length xs) (omega arith) ∙ zero-add (length xs)
 
 -- what the writing into a buffer with no place told: n is the length
 module _ {none m : List ℕ} {n : ℕ} (xs l : List ℕ) (bound : length xs ≤ top) (measured : Wrote none 0 xs m n) where
@@ -30,18 +30,6 @@ module _ {none m : List ℕ} {n : ℕ} (xs l : List ℕ) (bound : length xs ≤ 
   whole-written room w =
       let same = whole-length xs bound measured in
       rw (le-leb (length xs) (length l) (omega arith), whole-length xs bound w, w .list)
-
-  pub no-room : (i : ℕ) → length l < i + n → placed i l ≡ ifRoom xs l i
-  unfolding ifRoom
-  no-room i short =
-      let same = whole-length xs bound measured in
-      rw (lt-leb (i + length xs) (length l) (omega arith))
-
-  pub with-room : {r : List ℕ} {i j : ℕ} → length l ≤ top → i + n ≤ length l → Wrote l i xs r j → placed j r ≡ ifRoom xs l i
-  unfolding ifRoom
-  with-room {i = i} t room w =
-      let same = whole-length xs bound measured in
-      rw (le-leb (i + length xs) (length l) (omega arith), w .list, w .next, past-fits i (length xs) (omega arith))
 
 -- x is what the code found, k what the definition says
 pub whole-refused : (x k : ℕ) (xs l : List ℕ) → x ≡ k → (x ≡ 0 → ⊥) → outcome (Refused x) l ≡ wholeText k xs l

@@ -11,35 +11,35 @@ use lib.ListN.{length, getD, take, drop, set, length-append, length-set, drop-of
 use lib.Seq.{sets, set-out, length-sets, sets-eq, take-set-le, take-at, length-take-le}
 use Rattle.text.specs.Text.{countOf}
 use Rattle.text.specs.Decimal.{digit}
-use Rattle.text.specs.Printed.{decimalOf, top, past, Wrote, partsFrom}
+use Rattle.text.specs.Printed.{decimalOf, top, placeAfter, Wrote, partsFrom}
 use Rattle.text.proofs.Digits.{decimal-one, decimal-more, count-append}
 use Rattle.text.proofs.Finding.{drop-next}
 
 -- ---- the place after n bytes
 
-pub past-fits : (i n : ℕ) → i + n ≤ top → past i n ≡ i + n
-past-fits i n h = rw (le-leb (i + n) top h)
+pub after-fits : (i n : ℕ) → i + n ≤ top → placeAfter i n ≡ i + n
+after-fits i n h = rw (le-leb (i + n) top h)
 
-pub past-top : (i n : ℕ) → top ≤ i + n → past i n ≡ top
-past-top i n h = go (leb (i + n) top) refl
+pub after-top : (i n : ℕ) → top ≤ i + n → placeAfter i n ≡ top
+after-top i n h = go (leb (i + n) top) refl
   where
     go : (t : Bool) → leb (i + n) top ≡ t → cond t (i + n) top ≡ top
     go true e = omega (arith, leb-true (i + n) top e)
     go false e = refl
 
-past-bound : (i n : ℕ) → past i n ≤ top
-past-bound i n = go (leb (i + n) top) refl
+after-bound : (i n : ℕ) → placeAfter i n ≤ top
+after-bound i n = go (leb (i + n) top) refl
   where
     go : (t : Bool) → leb (i + n) top ≡ t → cond t (i + n) top ≤ top
     go true e = leb-true (i + n) top e
     go false e = omega arith
 
-past-past : (i n m : ℕ) → past (past i n) m ≡ past i (n + m)
-past-past i n m = go (leb (i + n) top) refl
+after-after : (i n m : ℕ) → placeAfter (placeAfter i n) m ≡ placeAfter i (n + m)
+after-after i n m = go (leb (i + n) top) refl
   where
-    go : (t : Bool) → leb (i + n) top ≡ t → past (cond t (i + n) top) m ≡ past i (n + m)
+    go : (t : Bool) → leb (i + n) top ≡ t → placeAfter (cond t (i + n) top) m ≡ placeAfter i (n + m)
     go true e = let same : i + n + m ≡ i + (n + m) = omega arith in rw same
-    go false e = past-top top m (omega arith) ∙ sym (past-top i (n + m) (omega (arith, leb-false (i + n) top e)))
+    go false e = after-top top m (omega arith) ∙ sym (after-top i (n + m) (omega (arith, leb-false (i + n) top e)))
 
 -- ---- stores
 
@@ -55,8 +55,8 @@ sets-out l i [] h = refl
 sets-out l i (x ∷ xs) h =
     sets-out (set l i x) (suc i) xs (omega (arith, length-set l i x)) ∙ set-out l i x h
 
-sets-past : (l : List ℕ) (i n : ℕ) (xs : List ℕ) → length l ≤ top → sets l (past i n) xs ≡ sets l (i + n) xs
-sets-past l i n xs h = go (leb (i + n) top) refl
+sets-after : (l : List ℕ) (i n : ℕ) (xs : List ℕ) → length l ≤ top → sets l (placeAfter i n) xs ≡ sets l (i + n) xs
+sets-after l i n xs h = go (leb (i + n) top) refl
   where
     go : (t : Bool) → leb (i + n) top ≡ t → sets l (cond t (i + n) top) xs ≡ sets l (i + n) xs
     go true e = refl
@@ -71,21 +71,21 @@ wrote-then {l} {m} {r} {i} {j} {k} {xs} {ys} h a b =
       list =
           b .list
           ∙ ap (λ (n : ℕ). sets m n ys) (a .next)
-          ∙ ap (λ (n : List ℕ). sets n (past i (length xs)) ys) (a .list)
-          ∙ sets-past (sets l i xs) i (length xs) ys (omega (arith, length-sets l i xs))
+          ∙ ap (λ (n : List ℕ). sets n (placeAfter i (length xs)) ys) (a .list)
+          ∙ sets-after (sets l i xs) i (length xs) ys (omega (arith, length-sets l i xs))
           ∙ sym (sets-append l i xs ys);
       next =
           b .next
-          ∙ ap (λ (n : ℕ). past n (length ys)) (a .next)
-          ∙ past-past i (length xs) (length ys)
-          ∙ ap (λ (n : ℕ). past i n) (sym (length-append xs ys));
+          ∙ ap (λ (n : ℕ). placeAfter n (length ys)) (a .next)
+          ∙ after-after i (length xs) (length ys)
+          ∙ ap (λ (n : ℕ). placeAfter i n) (sym (length-append xs ys));
     }
 
 pub wrote-length : {l m : List ℕ} {i j : ℕ} {xs : List ℕ} → Wrote l i xs m j → length m ≡ length l
 wrote-length {l} {m} {i} {j} {xs} w = ap length (w .list) ∙ length-sets l i xs
 
 pub wrote-next : {l m : List ℕ} {i j : ℕ} {xs : List ℕ} → Wrote l i xs m j → j ≤ top
-wrote-next {i = i} {xs = xs} w = omega (arith, w .next, past-bound i (length xs))
+wrote-next {i = i} {xs = xs} w = omega (arith, w .next, after-bound i (length xs))
 
 pub wrote-same : {l m : List ℕ} {i j : ℕ} {xs ys : List ℕ} → xs ≡ ys → Wrote l i xs m j → Wrote l i ys m j
 wrote-same {l} {m} {i} {j} e w = subst (λ (zs : List ℕ). Wrote l i zs m j) e w
@@ -93,15 +93,15 @@ wrote-same {l} {m} {i} {j} e w = subst (λ (zs : List ℕ). Wrote l i zs m j) e 
 -- ---- one byte
 
 pub stored-byte : (l : List ℕ) (i b : ℕ) → length l ≤ top → i < length l → Wrote l i (b ∷ []) (set l i b) (i + 1)
-stored-byte l i b t h = record { list = refl; next = sym (past-fits i 1 (omega arith)) }
+stored-byte l i b t h = record { list = refl; next = sym (after-fits i 1 (omega arith)) }
 
-pub unstored-byte : (l : List ℕ) (i b j : ℕ) → length l ≤ i → j ≡ past i 1 → Wrote l i (b ∷ []) l j
+pub unstored-byte : (l : List ℕ) (i b j : ℕ) → length l ≤ i → j ≡ placeAfter i 1 → Wrote l i (b ∷ []) l j
 unstored-byte l i b j h e = record { list = sym (set-out l i b h); next = e }
 
 -- ---- all of a text: before byte n of s, and at its end
 
 pub wrote-none : (l : List ℕ) (i : ℕ) → i ≤ top → Wrote l i [] l i
-wrote-none l i h = record { list = refl; next = sym (past-fits i 0 (omega arith) ∙ add-zero i) }
+wrote-none l i h = record { list = refl; next = sym (after-fits i 0 (omega arith) ∙ add-zero i) }
 
 module _ (s : List ℕ) (n : ℕ) where
   pub rest-turn :
@@ -182,7 +182,7 @@ module _ (n k : ℕ) where
 
 pub wrote-room :
     {l m : List ℕ} {i j : ℕ} {xs : List ℕ} → i + length xs ≤ length l → length l ≤ top → Wrote l i xs m j → (m ≡ sets l i xs) × (j ≡ i + length xs)
-wrote-room {i = i} {xs = xs} h t w = (w .list, w .next ∙ past-fits i (length xs) (omega arith))
+wrote-room {i = i} {xs = xs} h t w = (w .list, w .next ∙ after-fits i (length xs) (omega arith))
 
 sets-kept : (n : ℕ) (l : List ℕ) (i : ℕ) (xs : List ℕ) → n ≤ i → take n (sets l i xs) ≡ take n l
 sets-kept n l i [] h = refl

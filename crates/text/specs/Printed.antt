@@ -29,22 +29,22 @@ abbrev pub allDigits : List ℕ → Bool
 allDigits [] = true
 allDigits (d ∷ ds) = isDigit d && allDigits ds
 
--- what the digits are worth after the number m
-abbrev pub worthAfter : ℕ → List ℕ → ℕ
-worthAfter m [] = m
-worthAfter m (d ∷ ds) = worthAfter (m * 10 + worth d) ds
+-- the number that the digits go on to from m
+abbrev pub valueAfter : ℕ → List ℕ → ℕ
+valueAfter m [] = m
+valueAfter m (d ∷ ds) = valueAfter (m * 10 + worth d) ds
 
 -- one digit, or several with no zero in front
-abbrev pub wellLed : List ℕ → Bool
-wellLed [] = false
-wellLed (d ∷ []) = true
-wellLed (d ∷ e ∷ ds) = isLeading d
+abbrev pub noLeadingZero : List ℕ → Bool
+noLeadingZero [] = false
+noLeadingZero (d ∷ []) = true
+noLeadingZero (d ∷ e ∷ ds) = isLeading d
 
 -- the digits ds are the number n as document 01 writes it, of any length
-pub record Spells (ds : List ℕ) (n : ℕ) : Type 0 where
+pub record IsDecimalOf (ds : List ℕ) (n : ℕ) : Type 0 where
   pub digits : allDigits ds ≡ true
-  pub well-led : wellLed ds ≡ true
-  pub value : worthAfter 0 ds ≡ n
+  pub no-leading-zero : noLeadingZero ds ≡ true
+  pub value : valueAfter 0 ds ≡ n
 
 -- ---- text at a place of a buffer
 
@@ -53,24 +53,13 @@ abbrev pub top : ℕ
 top = 2 ^ 64 - 1
 
 -- the place after n bytes from place i on
-abbrev pub past : ℕ → ℕ → ℕ
-past i n = cond (leb (i + n) top) (i + n) top
+abbrev pub placeAfter : ℕ → ℕ → ℕ
+placeAfter i n = cond (leb (i + n) top) (i + n) top
 
 -- the bytes xs were stored into l from place i on, those that l has places for, which left m; the place after all of them is j
 pub record Wrote (l : List ℕ) (i : ℕ) (xs : List ℕ) (m : List ℕ) (j : ℕ) : Type 0 where
   pub list : m ≡ sets l i xs
-  pub next : j ≡ past i (length xs)
-
--- all of xs from place i on, where l has room for them, else nothing: the next place, and the buffer
-pub record Placed : Type 0 where
-  pub next : ℕ
-  pub out : List ℕ
-
-abbrev pub placed : ℕ → List ℕ → Placed
-placed j l = record { next = j; out = l }
-
-unfoldable pub ifRoom : List ℕ → List ℕ → ℕ → Placed
-ifRoom xs l i = cond (leb (i + length xs) (length l)) (placed (i + length xs) (sets l i xs)) (placed i l)
+  pub next : j ≡ placeAfter i (length xs)
 
 -- the texts f k, f (k + 1) and so on, n of them, one after the other
 abbrev pub partsFrom : (ℕ → List ℕ) → ℕ → ℕ → List ℕ
@@ -79,11 +68,11 @@ partsFrom f k (suc n) = f k ++ partsFrom f (k + 1) n
 
 -- ---- a whole text
 
--- document 01's number for the answer: 10 is an output shorter than needed, 0 none
-abbrev pub writtenNumber : Written → ℕ
-writtenNumber (Text n) = 0
-writtenNumber (Short n) = 10
-writtenNumber (Refused k) = k
+-- the number for the answer: `short` is that of an output shorter than needed, which each kind of text gives, 0 is none
+abbrev pub writtenNumber : ℕ → Written → ℕ
+writtenNumber short (Text n) = 0
+writtenNumber short (Short n) = short
+writtenNumber short (Refused k) = k
 
 -- how long the text is; nothing is known of a refused one
 abbrev pub writtenLength : Written → ℕ

@@ -3,9 +3,9 @@
 ghost use mathlib.Core.List.{[], _∷_, _++_};
 ghost use mathlib.Core.Path.{_≡_};
 ghost use Prim.Native.Nat.{_+_};
-ghost use Rattle.text.specs.Printed.{decimalOf, past, Wrote, placed, ifRoom, writtenNumber, writtenLength};
+ghost use Rattle.text.specs.Printed.{decimalOf, placeAfter, Wrote, writtenNumber, writtenLength};
 
-// How the writing of a whole text ended: its length, the length that is needed, or the number of a refusal.
+// How the writing of a whole text ended: its length, the length that is needed where the output is shorter, or the number of a refusal.
 pub enum Written {
     Text(usize),
     Short(usize),
@@ -13,13 +13,13 @@ pub enum Written {
 }
 
 impl Written {
-    // The refusal's number: 10 where the output is too short, 0 where the text was written.
-    pub fn number(self) -> u8
-        ensures { λ r. ⌜ r ≡ writtenNumber self ⌝ }
+    // The refusal's number: `short` where the output is too short, which each kind of text numbers for itself; 0 where the text was written.
+    pub fn number(self, short: u8) -> u8
+        ensures { λ r. ⌜ r ≡ writtenNumber short self ⌝ }
     {
         match self {
             Written::Text(_) => 0,
-            Written::Short(_) => 10,
+            Written::Short(_) => short,
             Written::Refused(n) => n,
         }
     }
@@ -38,7 +38,7 @@ impl Written {
 
 // The next place. The largest number of all is no place of a buffer, and stays.
 fn after(at: usize) -> usize
-    ensures { λ r. ⌜ r ≡ past at 1 ⌝ }
+    ensures { λ r. ⌜ r ≡ placeAfter at 1 ⌝ }
 {
     if at < 18446744073709551615 {
         at + 1
@@ -101,19 +101,4 @@ pub fn decimal_plus(n: u64, k: u8, out: &mut [u8], at: usize) -> usize
     }
     let next = decimal(tens, out, at);
     byte(48 + (units % 10) as u8, out, next)
-}
-
-// The same, all or nothing: where there is no room for every digit nothing is stored, and the result is `at`.
-pub fn decimal_if_room(n: u64, k: u8, out: &mut [u8], at: usize) -> usize
-    ensures { λ r. ⌜ placed r (now (out .exit)) ≡ ifRoom (decimalOf (n + k)) (now (out .entry)) at ⌝ }
-{
-    let mut none = [0u8; 0];
-    let width = decimal_plus(n, k, &mut none, 0);
-    if out.len() < at {
-        return at;
-    }
-    if out.len() - at < width {
-        return at;
-    }
-    decimal_plus(n, k, out, at)
 }

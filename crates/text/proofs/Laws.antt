@@ -1,0 +1,62 @@
+-- What is promised of numbers in text, which bytes are read as one and how one is printed, and of a whole text that has no room.
+use mathlib.Core.Bool.{Bool, true, false, cond}
+use mathlib.Core.List.{List}
+use mathlib.Core.Logic.{_↔_}
+use mathlib.Core.Path.{_≡_, refl, sym, ap, _∙_}
+use Prim.Native.Nat.{ℕ, _<_}
+use native.Mathlib.Omega.{arith}
+use borrow.Author.Tests.{leb-true, leb-false}
+use lib.Dec.{leb}
+use lib.ListN.{length}
+use lib.Seq.{sets}
+use Rattle.text.specs.declared.Number.{Number}
+use Rattle.text.specs.declared.Number.the-variants.{Value, Malformed}
+use Rattle.text.specs.Decimal.{numberOf, fieldNumber, fieldValue, decimal}
+use Rattle.text.specs.declared.print.Written.{Written}
+use Rattle.text.specs.declared.print.Written.the-variants.{Text, Short}
+use Rattle.text.specs.Printed.{IsDecimalOf, decimalOf, writtenNumber, writtenLength, outcome, wholeText}
+use Rattle.text.proofs.Digits.{decimal-denotes, denotes-decimal}
+use Rattle.text.proofs.Printing.{printed, read-back}
+
+-- the bytes of a field are the number n, below 1,000, in decimal
+abbrev pub IsNumber : List ℕ → ℕ → Type 0
+IsNumber s n = (n < 1000) × (s ≡ decimal n)
+
+-- 0 comes with the value exactly where the bytes are that number in decimal
+pub value-exactly : (s : List ℕ) (n : ℕ) → ((fieldNumber (numberOf s) ≡ 0) × (fieldValue (numberOf s) ≡ n)) ↔ IsNumber s n
+value-exactly s n = (λ e. there (numberOf s) refl (e .0) (e .1), back)
+  where
+    there : (x : Number) → numberOf s ≡ x → fieldNumber x ≡ 0 → fieldValue x ≡ n → IsNumber s n
+    there (Value m) e z v = let p = printed s n (e ∙ ap Value v) in (p .small, p .spelt)
+    there Malformed e z v = absurd (omega (arith, z))
+
+    back : IsNumber s n → (fieldNumber (numberOf s) ≡ 0) × (fieldValue (numberOf s) ≡ n)
+    back h =
+        let e : numberOf s ≡ Value n = ap numberOf (h .1) ∙ read-back n (h .0) in
+        (ap fieldNumber e, ap fieldValue e)
+
+-- 6 comes exactly where the bytes are no such number
+pub six-exactly : (s : List ℕ) → (fieldNumber (numberOf s) ≡ 6) ↔ ((n : ℕ) → IsNumber s n → ⊥)
+six-exactly s = (λ e n h. omega (arith, e, value-exactly s n .1 h .0), λ none. go (numberOf s) refl none)
+  where
+    go : (x : Number) → numberOf s ≡ x → ((n : ℕ) → IsNumber s n → ⊥) → fieldNumber x ≡ 6
+    go (Value m) e none = let p = printed s m e in absurd (none m (p .small, p .spelt))
+    go Malformed e none = refl
+
+-- where the output is too short, and only there, the answer has the number that its kind of text gives for that, with the length that is needed
+pub short-exactly :
+    (short : ℕ) → (short ≡ 0 → ⊥) → (xs l : List ℕ)
+    → ((writtenNumber short (wholeText 0 xs l .answer) ≡ short) ↔ (length l < length xs)) × (writtenLength (wholeText 0 xs l .answer) ≡ length xs)
+unfolding wholeText
+short-exactly short some xs l = go (leb (length xs) (length l)) refl
+  where
+    go :
+        (t : Bool) → leb (length xs) (length l) ≡ t
+        → (let a : Written = cond t (outcome (Text (length xs)) (sets l 0 xs)) (outcome (Short (length xs)) l) .answer in
+        ((writtenNumber short a ≡ short) ↔ (length l < length xs)) × (writtenLength a ≡ length xs))
+    go true e = ((λ z. absurd (some (sym z)), λ h. absurd (omega (arith, leb-true (length xs) (length l) e))), refl)
+    go false e = ((λ z. leb-false (length xs) (length l) e, λ h. refl), refl)
+
+-- digits denote a number, of any size, exactly where they are how it is printed
+pub printed-exactly : (ds : List ℕ) (n : ℕ) → IsDecimalOf ds n ↔ (ds ≡ decimalOf n)
+printed-exactly ds n = (denotes-decimal ds n, λ e. rw e (decimal-denotes n))
