@@ -6,7 +6,8 @@ use lib.Dec.{eqb}
 use lib.ListN.{length, getD}
 use Rattle.registers.specs.State.{places}
 use Rattle.text.specs.Text.{bytes, join}
-use Rattle.text.specs.Printed.{decimalOf, Outcome, wholeText}
+use Rattle.text.specs.declared.print.Written.{Written}
+use Rattle.text.specs.Printed.{decimalOf, Outcome, wholeText, writtenNumber}
 
 -- ---- the cells
 
@@ -64,6 +65,10 @@ listingRefusal memoryLength writersLength =
     cond (eqb memoryLength places)
     (cond (eqb writersLength places) 0 1)
     1
+
+-- document 01's number for the answer: 10 is an output shorter than needed
+abbrev pub listingNumber : Written → ℕ
+listingNumber = writtenNumber 10
 
 abbrev pub listingCall : List ℕ → List ℕ → List ℕ → Outcome
 listingCall memory writers out = wholeText (listingRefusal (length memory) (length writers)) (listingOf memory writers) out

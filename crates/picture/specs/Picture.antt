@@ -11,7 +11,8 @@ use Rattle.glass.specs.declared.answer.Shown.{Shown}
 use Rattle.glass.specs.declared.answer.Shown.the-variants as shown
 use Rattle.glass.specs.Glass.{glassOf}
 use Rattle.text.specs.Text.{bytes, join}
-use Rattle.text.specs.Printed.{decimalOf, partsFrom, Outcome, wholeText}
+use Rattle.text.specs.declared.print.Written.{Written}
+use Rattle.text.specs.Printed.{decimalOf, partsFrom, Outcome, wholeText, writtenNumber}
 use Rattle.picture.specs.declared.Colour.{Colour}
 
 -- ---- colours
@@ -57,6 +58,10 @@ pixmapRefusal c memoryLength =
     cond (not (eqb memoryLength places)) 1
     (cond (not (allowed c)) 2
     0)
+
+-- document 01's number for the answer: 10 is an output shorter than needed
+abbrev pub pixmapNumber : Written → ℕ
+pixmapNumber = writtenNumber 10
 
 -- the answer, and the buffer
 abbrev pub pixmapCall : Chip → List ℕ → List ℕ → Outcome
