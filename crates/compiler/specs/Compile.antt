@@ -1,5 +1,5 @@
 -- What `compile` gives for every record, text and output (document 01, "Drawing lists" and "Numbers given back").
-use mathlib.Core.Bool.{Bool, cond}
+use mathlib.Core.Bool.{cond}
 use mathlib.Core.List.{List, []}
 use Prim.Native.Nat.{ℕ, _+_}
 use lib.Dec.{leb, ltb}

@@ -1,7 +1,7 @@
 -- The plain reading of a drawing list (document 01, "Drawing lists"): what its lines do to cells and registers, with no bus in it.
 use mathlib.Core.Bool.{Bool, cond, _&&_}
 use mathlib.Core.List.{List, [], _∷_}
-use Prim.Native.Nat.{ℕ, zero, suc, _/_, _%_, _-_}
+use Prim.Native.Nat.{ℕ, suc, _/_, _%_, _-_}
 use lib.Dec.{leb}
 use Rattle.registers.specs.declared.Registers.{Registers}
 use Rattle.registers.specs.Encode.{isGrey}

@@ -1,14 +1,14 @@
 -- The bus events of a drawing list (document 01, "Stream"), from the registers tracked along the list and the pins.
-use mathlib.Core.Bool.{Bool, cond}
+use mathlib.Core.Bool.{cond}
 use mathlib.Core.List.{List, [], _∷_, _++_}
 use Prim.Native.Nat.{ℕ, zero, suc, _+_, _*_, _-_}
 use lib.Dec.{eqb, ltb}
-use lib.ListN.{getD, length, replicate}
+use lib.ListN.{getD, replicate}
 use Rattle.registers.specs.declared.Registers.{Registers}
 use Rattle.registers.specs.Encode.{isGrey, rowFor, rowByte}
 use Rattle.registers.specs.Places.{GR}
 use Rattle.registers.specs.Reversed.{ordered}
-use Rattle.registers.specs.Table.{Row, rows, noRow}
+use Rattle.registers.specs.Table.{rows, noRow}
 use Rattle.chip.specs.Plays.{message, dataMessage}
 use Rattle.lists.specs.declared.Line.{Line}
 use Rattle.lists.specs.declared.Line.the-variants.{Fill, Set}

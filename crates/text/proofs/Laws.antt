@@ -3,36 +3,38 @@ use mathlib.Core.Bool.{Bool, true, false, cond}
 use mathlib.Core.List.{List}
 use mathlib.Core.Logic.{_↔_}
 use mathlib.Core.Path.{_≡_, refl, sym, ap, _∙_}
-use Prim.Native.Nat.{ℕ, _<_}
+use Prim.Native.Nat.{ℕ, zero, suc, _≤_, _<_}
+use native.Mathlib.Nat.{zero-add}
 use native.Mathlib.Omega.{arith}
 use borrow.Author.Tests.{leb-true, leb-false}
 use lib.Dec.{leb}
-use lib.ListN.{length}
+use lib.ListN.{length, take}
 use lib.Seq.{sets}
 use Rattle.text.specs.declared.Number.{Number}
 use Rattle.text.specs.declared.Number.the-variants.{Value, Malformed}
-use Rattle.text.specs.Decimal.{numberOf, fieldNumber, fieldValue, decimal}
+use Rattle.text.specs.Decimal.{numberOf, fieldNumber, fieldValue}
 use Rattle.text.specs.declared.print.Written.{Written}
-use Rattle.text.specs.declared.print.Written.the-variants.{Text, Short}
-use Rattle.text.specs.Printed.{IsDecimalOf, decimalOf, writtenNumber, writtenLength, outcome, wholeText}
-use Rattle.text.proofs.Digits.{decimal-denotes, denotes-decimal}
+use Rattle.text.specs.declared.print.Written.the-variants.{Text, Short, Refused}
+use Rattle.text.specs.Printed.{IsDecimalOf, decimalOf, writtenNumber, writtenLength, Outcome, outcome, wholeText}
+use Rattle.text.proofs.Digits.{decimal-denotes, denotes-decimal, decimal-short}
 use Rattle.text.proofs.Printing.{printed, read-back}
+use Rattle.text.proofs.Writing.{wrote-read}
 
 -- the bytes of a field are the number n, below 1,000, in decimal
 abbrev pub IsNumber : List ℕ → ℕ → Type 0
-IsNumber s n = (n < 1000) × (s ≡ decimal n)
+IsNumber s n = (n < 1000) × (s ≡ decimalOf n)
 
 -- 0 comes with the value exactly where the bytes are that number in decimal
 pub value-exactly : (s : List ℕ) (n : ℕ) → ((fieldNumber (numberOf s) ≡ 0) × (fieldValue (numberOf s) ≡ n)) ↔ IsNumber s n
 value-exactly s n = (λ e. there (numberOf s) refl (e .0) (e .1), back)
   where
     there : (x : Number) → numberOf s ≡ x → fieldNumber x ≡ 0 → fieldValue x ≡ n → IsNumber s n
-    there (Value m) e z v = let p = printed s n (e ∙ ap Value v) in (p .small, p .spelt)
+    there (Value m) e z v = let p = printed s n (e ∙ ap Value v) in (p .small, p .spelt ∙ sym (decimal-short _ (p .small)))
     there Malformed e z v = absurd (omega (arith, z))
 
     back : IsNumber s n → (fieldNumber (numberOf s) ≡ 0) × (fieldValue (numberOf s) ≡ n)
     back h =
-        let e : numberOf s ≡ Value n = ap numberOf (h .1) ∙ read-back n (h .0) in
+        let e : numberOf s ≡ Value n = ap numberOf (h .1 ∙ decimal-short n (h .0)) ∙ read-back n (h .0) in
         (ap fieldNumber e, ap fieldValue e)
 
 -- 6 comes exactly where the bytes are no such number
@@ -40,8 +42,14 @@ pub six-exactly : (s : List ℕ) → (fieldNumber (numberOf s) ≡ 6) ↔ ((n : 
 six-exactly s = (λ e n h. omega (arith, e, value-exactly s n .1 h .0), λ none. go (numberOf s) refl none)
   where
     go : (x : Number) → numberOf s ≡ x → ((n : ℕ) → IsNumber s n → ⊥) → fieldNumber x ≡ 6
-    go (Value m) e none = let p = printed s m e in absurd (none m (p .small, p .spelt))
+    go (Value m) e none = let p = printed s m e in absurd (none m (p .small, p .spelt ∙ sym (decimal-short _ (p .small))))
     go Malformed e none = refl
+
+-- digits denote a number, of any size, exactly where they are how it is printed
+pub printed-exactly : (ds : List ℕ) (n : ℕ) → IsDecimalOf ds n ↔ (ds ≡ decimalOf n)
+printed-exactly ds n = (denotes-decimal ds n, λ e. rw e (decimal-denotes n))
+
+-- ---- a whole text
 
 -- where the output is too short, and only there, the answer has the number that its kind of text gives for that, with the length that is needed
 pub short-exactly :
@@ -57,6 +65,31 @@ short-exactly short some xs l = go (leb (length xs) (length l)) refl
     go true e = ((λ z. absurd (some (sym z)), λ h. absurd (omega (arith, leb-true (length xs) (length l) e))), refl)
     go false e = ((λ z. leb-false (length xs) (length l) e, λ h. refl), refl)
 
--- digits denote a number, of any size, exactly where they are how it is printed
-pub printed-exactly : (ds : List ℕ) (n : ℕ) → IsDecimalOf ds n ↔ (ds ≡ decimalOf n)
-printed-exactly ds n = (denotes-decimal ds n, λ e. rw e (decimal-denotes n))
+-- what the answer tells of the buffer: it begins with the text
+module _ (xs l : List ℕ) where
+  from-start : length xs ≤ length l → take (length xs) (sets l 0 xs) ≡ xs
+  from-start h =
+      ap (λ (k : ℕ). take k (sets l 0 xs)) (sym (zero-add (length xs)))
+      ∙ wrote-read {l = l} {i = 0} {xs = xs} (omega arith) (record { list = refl; next = refl })
+
+  pub text-read : (k n : ℕ) {m : List ℕ} → outcome (Text n) m ≡ wholeText k xs l → (k ≡ 0) × (take n m ≡ xs)
+  unfolding wholeText
+  text-read zero n {m} e = go (leb (length xs) (length l)) refl e
+    where
+      go :
+          (t : Bool) → leb (length xs) (length l) ≡ t
+          → outcome (Text n) m ≡ cond t (outcome (Text (length xs)) (sets l 0 xs)) (outcome (Short (length xs)) l)
+          → (zero ≡ 0) × (take n m ≡ xs)
+      go true room told =
+          let same : Text n ≡ Text (length xs) = ap (λ (o : Outcome). o .answer) told in
+          let size : n ≡ length xs = cc in
+          let stored : m ≡ sets l 0 xs = ap (λ (o : Outcome). o .out) told in
+          (refl, rw (size, stored) (from-start (leb-true (length xs) (length l) room)))
+      go false room told =
+          let same : Text n ≡ Short (length xs) = ap (λ (o : Outcome). o .answer) told in
+          let z : _≡_ {A = ℕ} 0 1 = cc in
+          absurd (omega arith)
+  text-read (suc k) n e =
+      let same : Text n ≡ Refused (suc k) = ap (λ (o : Outcome). o .answer) e in
+      let z : _≡_ {A = ℕ} 0 1 = cc in
+      absurd (omega arith)

@@ -8,7 +8,7 @@ use native.Mathlib.Omega.{arith}
 use borrow.Author.Tests.{le-leb, leb-true, leb-false}
 use lib.Dec.{leb}
 use lib.ListN.{length, getD, take, drop, set, length-append, length-set, drop-of-length-le}
-use lib.Seq.{sets, set-out, length-sets, sets-eq, take-set-le, take-at, length-take-le}
+use lib.Seq.{sets, set-out, length-sets, sets-eq, take-at, length-take-le}
 use Rattle.text.specs.Text.{countOf}
 use Rattle.text.specs.Decimal.{digit}
 use Rattle.text.specs.Printed.{decimalOf, top, placeAfter, Wrote, partsFrom}
@@ -80,9 +80,6 @@ wrote-then {l} {m} {r} {i} {j} {k} {xs} {ys} h a b =
           ∙ after-after i (length xs) (length ys)
           ∙ ap (λ (n : ℕ). placeAfter i n) (sym (length-append xs ys));
     }
-
-pub wrote-length : {l m : List ℕ} {i j : ℕ} {xs : List ℕ} → Wrote l i xs m j → length m ≡ length l
-wrote-length {l} {m} {i} {j} {xs} w = ap length (w .list) ∙ length-sets l i xs
 
 pub wrote-next : {l m : List ℕ} {i j : ℕ} {xs : List ℕ} → Wrote l i xs m j → j ≤ top
 wrote-next {i = i} {xs = xs} w = omega (arith, w .next, after-bound i (length xs))
@@ -177,19 +174,6 @@ module _ (n k : ℕ) where
       let front : n / 10 + (n % 10 + k) / 10 ≡ (n + k) / 10 = omega arith in
       let last : (n % 10 + k) % 10 ≡ (n + k) % 10 = omega arith in
       number-more (n + k) (omega arith) t (rw front at a) (rw last at b)
-
--- ---- a text at a place with room for it, and what stands before that place
-
-pub wrote-room :
-    {l m : List ℕ} {i j : ℕ} {xs : List ℕ} → i + length xs ≤ length l → length l ≤ top → Wrote l i xs m j → (m ≡ sets l i xs) × (j ≡ i + length xs)
-wrote-room {i = i} {xs = xs} h t w = (w .list, w .next ∙ after-fits i (length xs) (omega arith))
-
-sets-kept : (n : ℕ) (l : List ℕ) (i : ℕ) (xs : List ℕ) → n ≤ i → take n (sets l i xs) ≡ take n l
-sets-kept n l i [] h = refl
-sets-kept n l i (x ∷ xs) h = sets-kept n (set l i x) (suc i) xs (omega arith) ∙ take-set-le n l i x h
-
-pub wrote-kept : {l m : List ℕ} {i j : ℕ} {xs : List ℕ} → Wrote l i xs m j → take i m ≡ take i l
-wrote-kept {l} {m} {i} {j} {xs} w = ap (λ (k : List ℕ). take i k) (w .list) ∙ sets-kept i l i xs (omega arith)
 
 -- what stands before the next place: what stood there before, and the text
 pub wrote-read : {l m : List ℕ} {i j : ℕ} {xs : List ℕ} → i + length xs ≤ length l → Wrote l i xs m j → take (i + length xs) m ≡ take i l ++ xs

@@ -1,5 +1,4 @@
 -- What a wrong definition would make true: each of these implies ⊥, computed.
-use mathlib.Core.List.{List}
 use mathlib.Core.Path.{_≡_}
 use Prim.Native.Nat.{ℕ}
 use native.Mathlib.Omega.{arith}
