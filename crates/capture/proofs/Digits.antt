@@ -8,7 +8,7 @@ use borrow.Author.Tests.{lt-ltb, le-ltb, leb-true, leb-false}
 use lib.Dec.{leb, ltb}
 use Rattle.text.specs.declared.Number as numbers
 use Rattle.text.specs.declared.Number.the-variants.{Value, Malformed}
-use Rattle.text.specs.Decimal.{isDigit, isLeading, worth, oneDigit, twoDigits, threeDigits, numberOf}
+use Rattle.text.specs.Decimal.{isDigit, isLeading, digitValue, oneDigit, twoDigits, threeDigits, numberOf}
 use Rattle.text.proofs.Numbers.{digit-bounds, leading-bounds, bounds-leading, leading-digit}
 use Rattle.registers.proofs.Below.{true-false}
 use Rattle.capture.specs.declared.Line.{Line}
@@ -32,7 +32,7 @@ of-test false n = refl
 -- ---- one digit more
 
 -- behind a number of one or two digits that begins with no zero
-taken : (n b k : ℕ) → 0 < n → n < 100 → n * 10 + worth b ≡ k → onNumber n b ≡ ofNumber (cond (isDigit b) (Value k) Malformed)
+taken : (n b k : ℕ) → 0 < n → n < 100 → n * 10 + digitValue b ≡ k → onNumber n b ≡ ofNumber (cond (isDigit b) (Value k) Malformed)
 taken n b k l h e = rw (lt-ltb 0 n l, lt-ltb n 100 h, e) (of-test (isDigit b) k)
 
 -- behind a zero, and behind three digits
@@ -42,7 +42,7 @@ refused-zero n b h = rw (le-ltb 0 n h)
 refused-long : (n b : ℕ) → 100 ≤ n → onNumber n b ≡ Bad
 refused-long n b h = rw (le-ltb n 100 h) (never (ltb 0 n) (isDigit b))
   where
-    never : (s t : Bool) → cond (s && false && t) (Number (n * 10 + worth b)) Bad ≡ Bad
+    never : (s t : Bool) → cond (s && false && t) (Number (n * 10 + digitValue b)) Bad ≡ Bad
     never true t = refl
     never false t = refl
 
@@ -52,15 +52,15 @@ second a b = go (isDigit a) refl (isLeading a) refl
   where
     go :
         (t : Bool) → isDigit a ≡ t → (l : Bool) → isLeading a ≡ l
-        → joinedTo (ofNumber (cond t (Value (worth a)) Malformed)) b ≡ ofNumber (cond (l && isDigit b) (Value (worth a * 10 + worth b)) Malformed)
+        → joinedTo (ofNumber (cond t (Value (digitValue a)) Malformed)) b ≡ ofNumber (cond (l && isDigit b) (Value (digitValue a * 10 + digitValue b)) Malformed)
     go false et true el = absurd (true-false (sym (leading-digit a el) ∙ et))
     go false et false el = refl
     go true et true el =
         let bounds = leading-bounds a el in
-        taken (worth a) b _ (omega arith) (omega arith) refl
-    go true et false el = refused-zero (worth a) b (small (leb 49 a) refl)
+        taken (digitValue a) b _ (omega arith) (omega arith) refl
+    go true et false el = refused-zero (digitValue a) b (small (leb 49 a) refl)
       where
-        small : (t : Bool) → leb 49 a ≡ t → worth a ≤ 0
+        small : (t : Bool) → leb 49 a ≡ t → digitValue a ≤ 0
         small true e = absurd (true-false (sym (bounds-leading a (leb-true 49 a e) (digit-bounds a et .1)) ∙ el))
         small false e = omega (arith, leb-false 49 a e)
 
@@ -70,14 +70,14 @@ third a b c = go (isLeading a) refl (isDigit b) refl
   where
     go :
         (l : Bool) → isLeading a ≡ l → (t : Bool) → isDigit b ≡ t
-        → joinedTo (ofNumber (cond (l && t) (Value (worth a * 10 + worth b)) Malformed)) c
-        ≡ ofNumber (cond (l && t && isDigit c) (Value (worth a * 100 + worth b * 10 + worth c)) Malformed)
+        → joinedTo (ofNumber (cond (l && t) (Value (digitValue a * 10 + digitValue b)) Malformed)) c
+        ≡ ofNumber (cond (l && t && isDigit c) (Value (digitValue a * 100 + digitValue b * 10 + digitValue c)) Malformed)
     go false el t et = refl
     go true el false et = refl
     go true el true et =
         let first = leading-bounds a el in
         let next = digit-bounds b et in
-        taken (worth a * 10 + worth b) c _ (omega arith) (omega arith) (omega arith)
+        taken (digitValue a * 10 + digitValue b) c _ (omega arith) (omega arith) (omega arith)
 
 fourth : (a b c d : ℕ) → joinedTo (ofNumber (threeDigits a b c)) d ≡ Bad
 unfolding joinedTo
@@ -85,18 +85,18 @@ fourth a b c d = go (isLeading a) refl (isDigit b) (isDigit c)
   where
     go :
         (l : Bool) → isLeading a ≡ l → (s t : Bool)
-        → joinedTo (ofNumber (cond (l && s && t) (Value (worth a * 100 + worth b * 10 + worth c)) Malformed)) d ≡ Bad
+        → joinedTo (ofNumber (cond (l && s && t) (Value (digitValue a * 100 + digitValue b * 10 + digitValue c)) Malformed)) d ≡ Bad
     go false el s t = refl
     go true el false t = refl
     go true el true false = refl
     go true el true true =
         let first = leading-bounds a el in
-        refused-long (worth a * 100 + worth b * 10 + worth c) d (omega arith)
+        refused-long (digitValue a * 100 + digitValue b * 10 + digitValue c) d (omega arith)
 
 -- what is kept of a line and one byte more
 pub join-shown : (p : List ℕ) (b : ℕ) → joinedTo (shown p) b ≡ shown (p ++ b ∷ [])
 unfolding joinedTo numberOf
-join-shown [] b = of-test (isDigit b) (worth b)
+join-shown [] b = of-test (isDigit b) (digitValue b)
 join-shown (a ∷ []) b = second a b
 join-shown (a ∷ b ∷ []) c = third a b c
 join-shown (a ∷ b ∷ c ∷ []) d = fourth a b c d

@@ -9,7 +9,7 @@ use lib.Dec.{eqb, leb}
 use lib.ListN.{length, getD, take, drop}
 use Rattle.text.specs.declared.Number as numbers
 use Rattle.text.specs.declared.Number.the-variants.{Value, Malformed}
-use Rattle.text.specs.Decimal.{isDigit, isLeading, worth, oneDigit, twoDigits, threeDigits, numberOf}
+use Rattle.text.specs.Decimal.{isDigit, isLeading, digitValue, oneDigit, twoDigits, threeDigits, numberOf}
 use Rattle.text.specs.Text.{sameBytes}
 use Rattle.text.proofs.Finding.{drop-next}
 use Rattle.text.proofs.Numbers.{leading-bounds}
@@ -51,14 +51,14 @@ long false n h = refl
 two-long : (a b : ℕ) → asPins (twoDigits a b) ≡ Malformed
 two-long a b = go (isLeading a) refl
   where
-    go : (l : Bool) → isLeading a ≡ l → asPins (cond (l && isDigit b) (Value (worth a * 10 + worth b)) Malformed) ≡ Malformed
+    go : (l : Bool) → isLeading a ≡ l → asPins (cond (l && isDigit b) (Value (digitValue a * 10 + digitValue b)) Malformed) ≡ Malformed
     go false e = refl
     go true e = let bounds = leading-bounds a e in long (isDigit b) _ (omega arith)
 
 three-long : (a b c : ℕ) → asPins (threeDigits a b c) ≡ Malformed
 three-long a b c = go (isLeading a) refl
   where
-    go : (l : Bool) → isLeading a ≡ l → asPins (cond (l && isDigit b && isDigit c) (Value (worth a * 100 + worth b * 10 + worth c)) Malformed) ≡ Malformed
+    go : (l : Bool) → isLeading a ≡ l → asPins (cond (l && isDigit b && isDigit c) (Value (digitValue a * 100 + digitValue b * 10 + digitValue c)) Malformed) ≡ Malformed
     go false e = refl
     go true e = let bounds = leading-bounds a e in long (isDigit b && isDigit c) _ (omega arith)
 
@@ -69,16 +69,16 @@ longer a b (c ∷ []) = three-long a b c
 longer a b (c ∷ d ∷ p) = refl
 
 -- a digit from 0 to 3 is
-one : (d : ℕ) → pinsIn (cond (isPins d) (Pins (worth d)) BadFirst) ≡ asPins (oneDigit d)
+one : (d : ℕ) → pinsIn (cond (isPins d) (Pins (digitValue d)) BadFirst) ≡ asPins (oneDigit d)
 one d = go (leb 48 d) refl (leb d 51) refl (leb d 57) refl
   where
     go :
         (l : Bool) → leb 48 d ≡ l → (t : Bool) → leb d 51 ≡ t → (u : Bool) → leb d 57 ≡ u
-        → pinsIn (cond (l && t) (Pins (worth d)) BadFirst) ≡ asPins (cond (l && u) (Value (worth d)) Malformed)
+        → pinsIn (cond (l && t) (Pins (digitValue d)) BadFirst) ≡ asPins (cond (l && u) (Value (digitValue d)) Malformed)
     go false el t et u eu = refl
-    go true el true et true eu = rw (le-leb (worth d) 3 (omega (arith, leb-true d 51 et)))
+    go true el true et true eu = rw (le-leb (digitValue d) 3 (omega (arith, leb-true d 51 et)))
     go true el true et false eu = absurd (omega (arith, leb-true d 51 et, leb-false d 57 eu))
-    go true el false et true eu = rw (lt-leb (worth d) 3 (omega (arith, leb-false d 51 et)))
+    go true el false et true eu = rw (lt-leb (digitValue d) 3 (omega (arith, leb-false d 51 et)))
     go true el false et false eu = refl
 
 digits : (p : List ℕ) → pinsIn (joinAll (First 5) p) ≡ asPins (numberOf p)
@@ -87,7 +87,7 @@ digits [] = refl
 digits (d ∷ []) = one d
 digits (d ∷ e ∷ p) = go (isPins d) ∙ sym (longer d e p)
   where
-    go : (t : Bool) → pinsIn (joinAll (joinedTo (cond t (Pins (worth d)) BadFirst) e) p) ≡ Malformed
+    go : (t : Bool) → pinsIn (joinAll (joinedTo (cond t (Pins (digitValue d)) BadFirst) e) p) ≡ Malformed
     go true = ap pinsIn (stays-bad p)
     go false = ap pinsIn (stays-bad p)
 

@@ -9,7 +9,7 @@ use Rattle.registers.specs.declared.Chip.{Chip}
 use Rattle.registers.specs.Record.{resetChip}
 use Rattle.registers.specs.State.{State, state}
 use Rattle.chip.specs.Promised.{Answer, Refused, Nothing, Acknowledged, NotAcknowledged, Read, stepOf}
-use Rattle.text.specs.Decimal.{isDigit, worth}
+use Rattle.text.specs.Decimal.{isDigit, digitValue}
 use Rattle.capture.specs.declared.Line.{Line}
 use Rattle.capture.specs.declared.Line.the-variants.{First, Pins, Empty, Number, BadFirst, Bad}
 use Rattle.capture.specs.declared.bytes.Scanned.{Scanned}
@@ -42,17 +42,17 @@ isPins b = leb 48 b && leb b 51
 abbrev pub onWord : ℕ → ℕ → Line
 onWord k b =
     cond (ltb k 5) (cond (eqb b (getD word k 0)) (First (k + 1)) BadFirst)
-    (cond (isPins b) (Pins (worth b)) BadFirst)
+    (cond (isPins b) (Pins (digitValue b)) BadFirst)
 
 abbrev pub onDigit : ℕ → Line
-onDigit b = cond (isDigit b) (Number (worth b)) Bad
+onDigit b = cond (isDigit b) (Number (digitValue b)) Bad
 
 -- no digit follows a 0, and none a number of three digits
 abbrev pub goesOn : ℕ → Bool
 goesOn n = ltb 0 n && ltb n 100
 
 abbrev pub onNumber : ℕ → ℕ → Line
-onNumber n b = cond (goesOn n && isDigit b) (Number (n * 10 + worth b)) Bad
+onNumber n b = cond (goesOn n && isDigit b) (Number (n * 10 + digitValue b)) Bad
 
 unfoldable pub joinedTo : Line → ℕ → Line
 joinedTo (First k) b = onWord k b

@@ -9,7 +9,7 @@ use borrow.Author.Tests.{lt-ltb, le-ltb, ne-eqb}
 use lib.Dec.{eqb}
 use lib.ListN.{length, length-append}
 use Rattle.text.specs.Text.{countOf}
-use Rattle.text.specs.Decimal.{isDigit, isLeading, worth, digit, decimal}
+use Rattle.text.specs.Decimal.{isDigit, isLeading, digitValue, digit, decimal}
 use Rattle.text.specs.Printed.{digitsUpTo, decimalOf, allDigits, valueAfter, noLeadingZero, IsDecimalOf}
 use Rattle.text.proofs.Numbers.{and-both, digit-bounds, leading-bounds, bounds-leading}
 use Rattle.text.proofs.Printing.{is-digit}
@@ -63,9 +63,9 @@ all-append (x ∷ xs) ys hx hy =
     let both = and-both (isDigit x) (allDigits xs) hx in
     rw (both .0) (all-append xs ys (both .1) hy)
 
-worth-append : (m : ℕ) (xs ys : List ℕ) → valueAfter m (xs ++ ys) ≡ valueAfter (valueAfter m xs) ys
-worth-append m [] ys = refl
-worth-append m (x ∷ xs) ys = worth-append (m * 10 + worth x) xs ys
+value-append : (m : ℕ) (xs ys : List ℕ) → valueAfter m (xs ++ ys) ≡ valueAfter (valueAfter m xs) ys
+value-append m [] ys = refl
+value-append m (x ∷ xs) ys = value-append (m * 10 + digitValue x) xs ys
 
 -- a digit that leads still leads with digits after it
 led-append : (d : ℕ) (ds : List ℕ) (e : ℕ) → isLeading d ≡ true → noLeadingZero ((d ∷ ds) ++ (e ∷ [])) ≡ true
@@ -92,7 +92,7 @@ decimal-denotes =
     (λ n h rest. rw (decimal-more n h) (record {
       digits = all-append (decimalOf (n / 10)) (digit (n % 10) ∷ []) (rest .digits) (rw (is-digit (n % 10) (omega arith)));
       no-leading-zero = more-led (decimalOf (n / 10)) (digit (n % 10)) (decimal-led (n / 10) (omega arith)) .1;
-      value = worth-append 0 (decimalOf (n / 10)) (digit (n % 10) ∷ []) ∙ rw (rest .value) (omega arith);
+      value = value-append 0 (decimalOf (n / 10)) (digit (n % 10) ∷ []) ∙ rw (rest .value) (omega arith);
     }))
 
 -- ---- and nothing else does
@@ -103,10 +103,10 @@ spelt-after m [] p h = sym (append-nil (decimalOf m))
 spelt-after m (d ∷ ds) p h =
     let both = and-both (isDigit d) (allDigits ds) h in
     let bounds = digit-bounds d (both .0) in
-    let front : (m * 10 + worth d) / 10 ≡ m = omega arith in
-    let last : digit ((m * 10 + worth d) % 10) ≡ d = omega arith in
-    let one-more : decimalOf (m * 10 + worth d) ≡ decimalOf m ++ (d ∷ []) = decimal-more (m * 10 + worth d) (omega arith) ∙ rw (front, last) in
-    spelt-after (m * 10 + worth d) ds (omega arith) (both .1)
+    let front : (m * 10 + digitValue d) / 10 ≡ m = omega arith in
+    let last : digit ((m * 10 + digitValue d) % 10) ≡ d = omega arith in
+    let one-more : decimalOf (m * 10 + digitValue d) ≡ decimalOf m ++ (d ∷ []) = decimal-more (m * 10 + digitValue d) (omega arith) ∙ rw (front, last) in
+    spelt-after (m * 10 + digitValue d) ds (omega arith) (both .1)
     ∙ ap (λ (l : List ℕ). l ++ ds) one-more
     ∙ append-assoc (decimalOf m) (d ∷ []) ds
 
@@ -114,15 +114,15 @@ pub denotes-decimal : (ds : List ℕ) (n : ℕ) → IsDecimalOf ds n → ds ≡ 
 denotes-decimal [] n s = let z : _≡_ {A = ℕ} 0 1 = cc (s .no-leading-zero) in absurd (omega arith)
 denotes-decimal (d ∷ []) n s =
     let bounds = digit-bounds d (and-both (isDigit d) true (s .digits) .0) in
-    let same : digit (worth d) ≡ d = omega arith in
-    let value : worth d ≡ n = omega (arith, s .value) in
-    rw (← value) (sym (decimal-one (worth d) (omega arith) ∙ rw same))
+    let same : digit (digitValue d) ≡ d = omega arith in
+    let value : digitValue d ≡ n = omega (arith, s .value) in
+    rw (← value) (sym (decimal-one (digitValue d) (omega arith) ∙ rw same))
 denotes-decimal (d ∷ e ∷ ds) n s =
     let bounds = leading-bounds d (s .no-leading-zero) in
-    let same : digit (worth d) ≡ d = omega arith in
-    let from : valueAfter (worth d) (e ∷ ds) ≡ n = ap (λ (m : ℕ). valueAfter m (e ∷ ds)) (omega arith) ∙ s .value in
+    let same : digit (digitValue d) ≡ d = omega arith in
+    let from : valueAfter (digitValue d) (e ∷ ds) ≡ n = ap (λ (m : ℕ). valueAfter m (e ∷ ds)) (omega arith) ∙ s .value in
     let rest : allDigits (e ∷ ds) ≡ true = and-both (isDigit d) (allDigits (e ∷ ds)) (s .digits) .1 in
-    sym (ap decimalOf (sym from) ∙ spelt-after (worth d) (e ∷ ds) (omega arith) rest ∙ rw (decimal-one (worth d) (omega arith), same))
+    sym (ap decimalOf (sym from) ∙ spelt-after (digitValue d) (e ∷ ds) (omega arith) rest ∙ rw (decimal-one (digitValue d) (omega arith), same))
 
 -- ---- how many
 

@@ -8,7 +8,7 @@ use native.Mathlib.Omega.{arith}
 use borrow.Author.Tests.{lt-ltb, le-ltb, ne-eqb}
 use lib.Dec.{eqb, ltb}
 use Rattle.text.specs.declared.Number.the-variants.{Value, Malformed}
-use Rattle.text.specs.Decimal.{isDigit, isLeading, worth, digit, oneDigit, twoDigits, threeDigits, numberOf, decimal}
+use Rattle.text.specs.Decimal.{isDigit, isLeading, digitValue, digit, oneDigit, twoDigits, threeDigits, numberOf, decimal}
 use Rattle.text.specs.Text.{countOf}
 use Rattle.text.proofs.Numbers.{and-both, digit-bounds, leading-bounds, bounds-digit, bounds-leading}
 
@@ -34,18 +34,18 @@ is-leading : (n : ℕ) → 0 < n → n < 10 → isLeading (digit n) ≡ true
 is-leading n l h = bounds-leading (digit n) (omega arith) (omega arith)
 
 read-one : (n : ℕ) → n < 10 → oneDigit (digit n) ≡ Value n
-read-one n h = well (isDigit (digit n)) (worth (digit n)) n (is-digit n h) (omega arith)
+read-one n h = well (isDigit (digit n)) (digitValue (digit n)) n (is-digit n h) (omega arith)
 
 read-two : (n : ℕ) → 10 ≤ n → n < 100 → twoDigits (digit (n / 10)) (digit (n % 10)) ≡ Value n
 read-two n l h =
-    well (isLeading (digit (n / 10)) && isDigit (digit (n % 10))) (worth (digit (n / 10)) * 10 + worth (digit (n % 10))) n
+    well (isLeading (digit (n / 10)) && isDigit (digit (n % 10))) (digitValue (digit (n / 10)) * 10 + digitValue (digit (n % 10))) n
     (rw (is-leading (n / 10) (omega arith) (omega arith), is-digit (n % 10) (omega arith)))
     (omega arith)
 
 read-three : (n : ℕ) → 100 ≤ n → n < 1000 → threeDigits (digit (n / 100)) (digit (n / 10 % 10)) (digit (n % 10)) ≡ Value n
 read-three n l h =
     well (isLeading (digit (n / 100)) && isDigit (digit (n / 10 % 10)) && isDigit (digit (n % 10)))
-    (worth (digit (n / 100)) * 100 + worth (digit (n / 10 % 10)) * 10 + worth (digit (n % 10))) n
+    (digitValue (digit (n / 100)) * 100 + digitValue (digit (n / 10 % 10)) * 10 + digitValue (digit (n % 10))) n
     (rw (is-leading (n / 100) (omega arith) (omega arith), is-digit (n / 10 % 10) (omega arith), is-digit (n % 10) (omega arith)))
     (omega arith)
 
@@ -70,14 +70,14 @@ pub record Printed (s : List ℕ) (n : ℕ) : Type 0 where
 
 printed-one : (a n : ℕ) → oneDigit a ≡ Value n → Printed (a ∷ []) n
 printed-one a n e =
-    let told = read-value (isDigit a) (worth a) n e in
+    let told = read-value (isDigit a) (digitValue a) n e in
     let bounds = digit-bounds a (told .0) in
     let at : digit n ≡ a = omega (arith, told .1) in
     record { small = omega (arith, told .1); spelt = sym (decimal-one n (omega (arith, told .1)) ∙ rw at) }
 
 printed-two : (a b n : ℕ) → twoDigits a b ≡ Value n → Printed (a ∷ b ∷ []) n
 printed-two a b n e =
-    let told = read-value (isLeading a && isDigit b) (worth a * 10 + worth b) n e in
+    let told = read-value (isLeading a && isDigit b) (digitValue a * 10 + digitValue b) n e in
     let tests = and-both (isLeading a) (isDigit b) (told .0) in
     let ra = leading-bounds a (tests .0) in
     let rb = digit-bounds b (tests .1) in
@@ -87,7 +87,7 @@ printed-two a b n e =
 
 printed-three : (a b c n : ℕ) → threeDigits a b c ≡ Value n → Printed (a ∷ b ∷ c ∷ []) n
 printed-three a b c n e =
-    let told = read-value (isLeading a && isDigit b && isDigit c) (worth a * 100 + worth b * 10 + worth c) n e in
+    let told = read-value (isLeading a && isDigit b && isDigit c) (digitValue a * 100 + digitValue b * 10 + digitValue c) n e in
     let tests = and-both (isLeading a && isDigit b) (isDigit c) (told .0) in
     let first = and-both (isLeading a) (isDigit b) (tests .0) in
     let ra = leading-bounds a (first .0) in

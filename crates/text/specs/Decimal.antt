@@ -14,17 +14,17 @@ isDigit x = leb 48 x && leb x 57
 abbrev pub isLeading : ℕ → Bool
 isLeading x = leb 49 x && leb x 57
 
-abbrev pub worth : ℕ → ℕ
-worth x = x - 48
+abbrev pub digitValue : ℕ → ℕ
+digitValue x = x - 48
 
 abbrev pub oneDigit : ℕ → Number
-oneDigit a = cond (isDigit a) (Value (worth a)) Malformed
+oneDigit a = cond (isDigit a) (Value (digitValue a)) Malformed
 
 abbrev pub twoDigits : ℕ → ℕ → Number
-twoDigits a b = cond (isLeading a && isDigit b) (Value (worth a * 10 + worth b)) Malformed
+twoDigits a b = cond (isLeading a && isDigit b) (Value (digitValue a * 10 + digitValue b)) Malformed
 
 abbrev pub threeDigits : ℕ → ℕ → ℕ → Number
-threeDigits a b c = cond (isLeading a && isDigit b && isDigit c) (Value (worth a * 100 + worth b * 10 + worth c)) Malformed
+threeDigits a b c = cond (isLeading a && isDigit b && isDigit c) (Value (digitValue a * 100 + digitValue b * 10 + digitValue c)) Malformed
 
 unfoldable pub numberOf : List ℕ → Number
 numberOf [] = Malformed

@@ -8,7 +8,7 @@ use lib.ListN.{length}
 use lib.Seq.{sets}
 use Rattle.text.specs.declared.print.Written.{Written}
 use Rattle.text.specs.declared.print.Written.the-variants.{Text, Short, Refused}
-use Rattle.text.specs.Decimal.{isDigit, isLeading, worth, digit}
+use Rattle.text.specs.Decimal.{isDigit, isLeading, digitValue, digit}
 
 -- ---- the digits of a number
 
@@ -32,7 +32,7 @@ allDigits (d ∷ ds) = isDigit d && allDigits ds
 -- the number that the digits go on to from m
 abbrev pub valueAfter : ℕ → List ℕ → ℕ
 valueAfter m [] = m
-valueAfter m (d ∷ ds) = valueAfter (m * 10 + worth d) ds
+valueAfter m (d ∷ ds) = valueAfter (m * 10 + digitValue d) ds
 
 -- one digit, or several with no zero in front
 abbrev pub noLeadingZero : List ℕ → Bool

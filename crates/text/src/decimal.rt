@@ -1,6 +1,6 @@
 // Numbers as document 01 writes them in lists and captures: 1 to 3 digits, no leading zero but for 0 itself.
 ghost use mathlib.Core.Path.{_≡_};
-ghost use Rattle.text.specs.Decimal.{isDigit, isLeading, worth, oneDigit, twoDigits, threeDigits, numberOf};
+ghost use Rattle.text.specs.Decimal.{isDigit, isLeading, digitValue, oneDigit, twoDigits, threeDigits, numberOf};
 use crate::Number;
 
 fn is_digit(byte: u8) -> bool
@@ -15,9 +15,9 @@ fn is_leading(byte: u8) -> bool
     (49 <= byte) & (byte <= 57)
 }
 
-// What a digit is worth. It is asked only of digits, and answers 0 below them.
+// The value of a digit. It is asked only of digits, and answers 0 below them.
 fn digit(byte: u8) -> u16
-    ensures { λ r. ⌜ r ≡ worth byte ⌝ }
+    ensures { λ r. ⌜ r ≡ digitValue byte ⌝ }
 {
     if byte < 48 {
         return 0;
