@@ -6,4 +6,5 @@ pub mod Paint
 pub mod Plays
 pub mod Refusals
 pub mod Rows
+pub mod RunOn
 pub mod Runs

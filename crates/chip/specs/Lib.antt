@@ -4,5 +4,6 @@ pub mod Paint
 pub mod Phases
 pub mod Plays
 pub mod Promised
+pub mod RunOn
 pub mod Runs
 pub mod When
