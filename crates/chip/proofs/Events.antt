@@ -2,8 +2,6 @@
 use mathlib.Core.Bool.{true, false, not}
 use mathlib.Core.Path.{_≡_, refl, ap, _∙_}
 use Prim.Native.Nat.{ℕ, _+_, _<_}
-use native.Mathlib.Omega.{arith}
-use borrow.Author.Tests.{lt-ltb}
 use lib.ListN.{set}
 use Rattle.registers.specs.declared.Phase.{Phase}
 use Rattle.registers.specs.declared.Phase.the-variants.{Idle, AddressAwaited, Ignoring, ControlAwaited, OneByte, EndlessBytes, Reading, ReadEnded}
@@ -11,27 +9,21 @@ use Rattle.registers.specs.Record.{inPhase, withRegisters}
 use Rattle.registers.specs.State.{State, state}
 use Rattle.registers.proofs.Below.{false-true}
 use Rattle.engine.specs.declared.event.Event.{Event}
-use Rattle.engine.specs.declared.event.Event.the-variants.{Byte, Sensor}
-use Rattle.engine.specs.Event.{eventOf}
-use Rattle.engine.specs.Step.{onByte, applied, accepted}
-use Rattle.chip.specs.Phases.{awaitsData, awaitsCommand, isDeaf, afterContent, afterUnheard}
-use Rattle.chip.specs.Promised.{Acknowledged, NotAcknowledged, after, refusalOf, stepOf, counted, commandOf, storedOf, placeOf, nextAddress}
-use Rattle.chip.specs.Effects.{plain, displayed}
-use Rattle.chip.proofs.Refusals.{accepted-step, past-low}
+use Rattle.engine.specs.Phases.{phaseAfterContent}
+use Rattle.engine.specs.Step.{onByte, applied, accepted, counted}
+use Rattle.engine.proofs.Events.{byte-event}
+use Rattle.chip.specs.Phases.{awaitsData, awaitsCommand, isDeaf, afterUnheard}
+use Rattle.chip.specs.Promised.{Acknowledged, NotAcknowledged, after, nothingStored, refusalOf, stepOf, commandOf, storedOf, placeOf, nextAddress}
+use Rattle.chip.specs.Effects.{displayed}
+use Rattle.chip.proofs.Refusals.{accepted-step}
 
-pub byte-event : (b : ℕ) → b < 256 → eventOf b ≡ Byte b
-byte-event b h = simp (lt-ltb b 256 h)
-
-pub sensor-event : (v : ℕ) → v < 256 → eventOf (512 + v) ≡ Sensor v
-sensor-event v h = past-low (512 + v) (omega arith) ∙ simp (lt-ltb (512 + v) 768 (omega arith)) (ap Sensor (omega arith))
-
-same-phase : (s : State) (p : Phase) → s .chip .phase ≡ p → plain NotAcknowledged (s .chip) s ≡ plain NotAcknowledged (inPhase (s .chip) p) s
-same-phase s p e = ap (λ (q : Phase). plain NotAcknowledged (inPhase (s .chip) q) s) e
+same-phase : (s : State) (p : Phase) → s .chip .phase ≡ p → nothingStored NotAcknowledged (s .chip) s ≡ nothingStored NotAcknowledged (inPhase (s .chip) p) s
+same-phase s p e = ap (λ (q : Phase). nothingStored NotAcknowledged (inPhase (s .chip) q) s) e
 
 -- a byte in the phases that take a command, take display data, or take nothing
 pub command-at :
     (p : Phase) (b number : ℕ) (s : State) → awaitsCommand p ≡ true
-    → onByte p b number s ≡ plain Acknowledged (withRegisters (inPhase (s .chip) (afterContent p)) (commandOf b (s .chip .registers))) s
+    → onByte p b number s ≡ nothingStored Acknowledged (withRegisters (inPhase (s .chip) (phaseAfterContent p)) (commandOf b (s .chip .registers))) s
 command-at Idle b number s t = absurd (false-true t)
 command-at AddressAwaited b number s t = absurd (false-true t)
 command-at Ignoring b number s t = absurd (false-true t)
@@ -46,7 +38,7 @@ command-at ReadEnded b number s t = absurd (false-true t)
 pub display-at :
     (p : Phase) (b number : ℕ) (s : State) → awaitsData p ≡ true
     → onByte p b number s
-    ≡ after Acknowledged (withRegisters (inPhase (s .chip) (afterContent p)) (nextAddress (s .chip .registers)))
+    ≡ after Acknowledged (withRegisters (inPhase (s .chip) (phaseAfterContent p)) (nextAddress (s .chip .registers)))
     (set (s .memory) (placeOf (s .chip .registers)) (storedOf (s .chip .registers) b)) (set (s .writers) (placeOf (s .chip .registers)) number)
 display-at Idle b number s t = absurd (false-true t)
 display-at AddressAwaited b number s t = absurd (false-true t)
@@ -59,7 +51,7 @@ display-at (EndlessBytes false) b number s t = absurd (false-true t)
 display-at Reading b number s t = absurd (false-true t)
 display-at ReadEnded b number s t = absurd (false-true t)
 
-pub unheard-at : (p : Phase) (b number : ℕ) (s : State) → s .chip .phase ≡ p → isDeaf p ≡ true → onByte p b number s ≡ plain NotAcknowledged (inPhase (s .chip) (afterUnheard p)) s
+pub unheard-at : (p : Phase) (b number : ℕ) (s : State) → s .chip .phase ≡ p → isDeaf p ≡ true → onByte p b number s ≡ nothingStored NotAcknowledged (inPhase (s .chip) (afterUnheard p)) s
 unheard-at Idle b number s e t = same-phase s Idle e
 unheard-at AddressAwaited b number s e t = absurd (false-true t)
 unheard-at Ignoring b number s e t = same-phase s Ignoring e
@@ -73,7 +65,7 @@ unheard-at ReadEnded b number s e t = refl
 pub by-phase :
     (s : State) (b : ℕ) → b < 256 → refusalOf b s ≡ 0
     → stepOf b s ≡ onByte (s .chip .phase) b (s .chip .count + 1) (state (counted (s .chip)) (s .memory) (s .writers))
-unfolding accepted applied
+unfolding accepted applied counted
 by-phase s b is-byte h =
     accepted-step b s h
     ∙ ap (λ (e : Event). applied e (s .chip .count + 1) (state (counted (s .chip)) (s .memory) (s .writers))) (byte-event b is-byte)
@@ -85,5 +77,6 @@ in-phase-told s b is-byte h p e =
     by-phase s b is-byte h ∙ ap (λ (q : Phase). onByte q b (s .chip .count + 1) (state (counted (s .chip)) (s .memory) (s .writers))) e
 
 pub display-step : (s : State) (b : ℕ) → b < 256 → refusalOf b s ≡ 0 → awaitsData (s .chip .phase) ≡ true → stepOf b s ≡ displayed b s
+unfolding counted
 display-step s b is-byte h t =
     by-phase s b is-byte h ∙ display-at (s .chip .phase) b (s .chip .count + 1) (state (counted (s .chip)) (s .memory) (s .writers)) t

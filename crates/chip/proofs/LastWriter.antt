@@ -20,15 +20,15 @@ use Rattle.engine.specs.declared.event.Event.{Event}
 use Rattle.engine.specs.declared.event.Event.the-variants.{Byte, Start, Stop, ReadAcknowledged, ReadNotAcknowledged, Reset, Sensor, Unlisted}
 use Rattle.engine.specs.Event.{eventOf}
 use Rattle.engine.specs.Run
-use Rattle.engine.specs.Run.{unlessStopped}
-use Rattle.engine.specs.Step.{onByte, applied, accepted, counted}
-use Rattle.engine.proofs.Memory.{place-bound, fit-x, fit-y}
+use Rattle.engine.specs.Run.{unlessStopped, runFrom}
+use Rattle.engine.specs.Step.{controlled, pulsed, sensed, onByte, applied, accepted, counted}
+use Rattle.engine.proofs.Allowed.{accepted-fit, fit-place}
+use Rattle.engine.proofs.Events.{byte-event}
 use Rattle.chip.specs.Effects.{displayed}
 use Rattle.chip.specs.LastWriter.{Lands, before, Untouched, Written}
 use Rattle.chip.specs.Phases.{awaitsData}
-use Rattle.chip.specs.Promised.{After, Fit, Outcome, refusalOf, stepOf, runFrom, placeOf, storedOf}
-use Rattle.chip.proofs.Allowed.{accepted-fit}
-use Rattle.chip.proofs.Events.{display-step, byte-event}
+use Rattle.chip.specs.Promised.{After, Fit, Outcome, refusalOf, stepOf, placeOf, storedOf}
+use Rattle.chip.proofs.Events.{display-step}
 use Rattle.chip.proofs.Refusals.{accepted-step}
 use Rattle.chip.proofs.Runs.{run-shift}
 
@@ -74,6 +74,7 @@ quiet-event Unlisted number s q = (refl, refl)
 
 -- every accepted event adds 1 to the count
 counts-byte : (p : Phase) (b number : ℕ) (s : State) → onByte p b number s .state .chip .count ≡ s .chip .count
+unfolding controlled
 counts-byte Idle b number s = refl
 counts-byte AddressAwaited b number s = refl
 counts-byte Ignoring b number s = refl
@@ -86,7 +87,7 @@ counts-byte Reading b number s = refl
 counts-byte ReadEnded b number s = refl
 
 counts-event : (v : Event) (number : ℕ) (s : State) → applied v number s .state .chip .count ≡ s .chip .count
-unfolding applied
+unfolding applied pulsed sensed
 counts-event (Byte b) number s = counts-byte (s .chip .phase) b number s
 counts-event Start number s = refl
 counts-event Stop number s = refl
@@ -97,7 +98,7 @@ counts-event (Sensor v) number s = refl
 counts-event Unlisted number s = refl
 
 pub counts-accepted : (e : ℕ) (s : State) → accepted e s .state .chip .count ≡ s .chip .count + 1
-unfolding accepted
+unfolding accepted counted
 counts-accepted e s = counts-event (eventOf e) (s .chip .count + 1) (state (counted (s .chip)) (s .memory) (s .writers))
 
 -- the events that are no bytes, by the tests that tell them
@@ -126,7 +127,7 @@ record Passed (e : ℕ) (s end : State) (k : ℕ) : Type 0 where
 
 module _ (e : ℕ) (s : State) (k : ℕ) (h : refusalOf e s ≡ 0) (fit : Fit s) where
   quiet-passes : (Lands e s k → ⊥) → Quiet (eventOf e) (s .chip .phase) → Passed e s (stepOf e s .state) k
-  unfolding accepted
+  unfolding accepted counted
   quiet-passes n q =
       let same = quiet-event (eventOf e) (s .chip .count + 1) (state (counted (s .chip)) (s .memory) (s .writers)) q in
       let step = accepted-step e s h in
@@ -148,7 +149,7 @@ module _ (e : ℕ) (s : State) (k : ℕ) (h : refusalOf e s ≡ 0) (fit : Fit s)
       step = display-step s e b h t
 
       within : placeOf (s .chip .registers) < 1717
-      within = place-bound (s .chip .registers) (fit-x s fit) (fit-y s fit)
+      within = fit-place s fit
 
       at-memory : (x : ℕ) → getD (stepOf e s .state .memory) x 0 ≡ getD (set (s .memory) (placeOf (s .chip .registers)) (storedOf (s .chip .registers) e)) x 0
       at-memory x = ap (λ (a : After). getD (a .state .memory) x 0) step
@@ -242,6 +243,7 @@ Claim es n s end k = Untouched es n s end k ⊎ Written es n s end k
 
 -- the events that are done, from a state that 1 and 2 let pass
 pub from-written : (es : List ℕ) (s : State) (k : ℕ) → Fit s → Claim es (runFrom 0 es s .done) s (runFrom 0 es s .state) k
+unfolding runFrom
 from-written [] s k fit = inl (idle [] s k)
 from-written (e ∷ es) s k fit = go (refusalOf e s) refl (from-written es (accepted e s .state) k (accepted-fit e s fit))
   where

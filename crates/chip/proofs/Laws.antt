@@ -8,17 +8,19 @@ use Rattle.registers.specs.declared.Phase.the-variants.{Idle, AddressAwaited, C
 use Rattle.registers.specs.Record.{inPhase, withRegisters}
 use Rattle.registers.specs.State.{State, state}
 use Rattle.engine.specs.declared.event.Event.{Event}
-use Rattle.engine.specs.Run.{runOf, unlessStopped}
-use Rattle.engine.specs.Step.{accepted, applied, stepOf}
+use Rattle.engine.specs.Run.{runOf, unlessStopped, runFrom}
+use Rattle.engine.specs.Phases.{phaseAfterContent}
+use Rattle.engine.specs.Step.{accepted, applied, stepOf, counted, readByte}
+use Rattle.engine.proofs.Allowed.{accepted-fit}
+use Rattle.engine.proofs.Events.{sensor-event}
 use Rattle.engine.proofs.Refusals.{entry-fit}
-use Rattle.chip.specs.Effects.{plain, displayed}
+use Rattle.chip.specs.Effects.{displayed}
 use Rattle.chip.specs.LastWriter.{LastWriter}
-use Rattle.chip.specs.Phases.{awaitsData, awaitsCommand, isDeaf, afterContent, afterUnheard}
-use Rattle.chip.specs.Promised.{Refused, Nothing, Acknowledged, NotAcknowledged, Read, Fit, entryRefusal, refusalOf, runFrom, counted, isAddressed, acknowledge, phaseAfterAddress, controlled, readByte, phaseAfterLastRead, pulsed, sensed, commandOf}
+use Rattle.chip.specs.Phases.{awaitsData, awaitsCommand, isDeaf, afterUnheard}
+use Rattle.chip.specs.Promised.{Refused, Nothing, Acknowledged, NotAcknowledged, Read, nothingStored, Fit, entryRefusal, refusalOf, isAddressed, acknowledge, phaseAfterAddress, controlled, phaseAfterLastRead, pulsed, sensed, commandOf}
 use Rattle.chip.specs.Runs.{continued}
 use Rattle.chip.specs.When.{When}
-use Rattle.chip.proofs.Allowed.{accepted-fit}
-use Rattle.chip.proofs.Events.{by-phase, in-phase-told, command-at, display-step, unheard-at, sensor-event}
+use Rattle.chip.proofs.Events.{by-phase, in-phase-told, command-at, display-step, unheard-at}
 use Rattle.chip.proofs.LastWriter.{Claim, from-written, idle, counts-accepted}
 use Rattle.chip.proofs.Refusals.{verdict, when-so, accepted-step}
 use Rattle.chip.proofs.Runs.{from-append, from-fit}
@@ -41,30 +43,30 @@ stays-fit e s h fit = rw (accepted-step e s h) (accepted-fit e s fit)
 -- ---- events that are not refused, one law each
 
 module _ (s : State) where
-  pub start-law : refusalOf 256 s ≡ 0 → stepOf 256 s ≡ plain Nothing (inPhase (counted (s .chip)) AddressAwaited) s
+  pub start-law : refusalOf 256 s ≡ 0 → stepOf 256 s ≡ nothingStored Nothing (inPhase (counted (s .chip)) AddressAwaited) s
   unfolding accepted applied
   start-law h = accepted-step 256 s h
 
-  pub stop-law : refusalOf 257 s ≡ 0 → stepOf 257 s ≡ plain Nothing (inPhase (counted (s .chip)) Idle) s
+  pub stop-law : refusalOf 257 s ≡ 0 → stepOf 257 s ≡ nothingStored Nothing (inPhase (counted (s .chip)) Idle) s
   unfolding accepted applied
   stop-law h = accepted-step 257 s h
 
   -- a byte read, acknowledged by the master, and one that is not: the second ends the read
-  pub read-law : refusalOf 258 s ≡ 0 → stepOf 258 s ≡ plain (Read (readByte (s .chip))) (counted (s .chip)) s
-  unfolding accepted applied
+  pub read-law : refusalOf 258 s ≡ 0 → stepOf 258 s ≡ nothingStored (Read (readByte (s .chip))) (counted (s .chip)) s
+  unfolding accepted applied counted readByte
   read-law h = accepted-step 258 s h
 
   pub last-read-law :
-      refusalOf 259 s ≡ 0 → stepOf 259 s ≡ plain (Read (readByte (s .chip))) (inPhase (counted (s .chip)) (phaseAfterLastRead (s .chip .phase))) s
-  unfolding accepted applied
+      refusalOf 259 s ≡ 0 → stepOf 259 s ≡ nothingStored (Read (readByte (s .chip))) (inPhase (counted (s .chip)) (phaseAfterLastRead (s .chip .phase))) s
+  unfolding accepted applied counted readByte
   last-read-law h = accepted-step 259 s h
 
   -- the reset pulse touches neither memory, count nor pins
-  pub reset-law : refusalOf 260 s ≡ 0 → stepOf 260 s ≡ plain Nothing (pulsed (counted (s .chip))) s
+  pub reset-law : refusalOf 260 s ≡ 0 → stepOf 260 s ≡ nothingStored Nothing (pulsed (counted (s .chip))) s
   unfolding accepted applied
   reset-law h = accepted-step 260 s h
 
-  pub sensor-law : (v : ℕ) → v < 256 → refusalOf (512 + v) s ≡ 0 → stepOf (512 + v) s ≡ plain Nothing (sensed v (counted (s .chip))) s
+  pub sensor-law : (v : ℕ) → v < 256 → refusalOf (512 + v) s ≡ 0 → stepOf (512 + v) s ≡ nothingStored Nothing (sensed v (counted (s .chip))) s
   unfolding accepted applied
   sensor-law v b h =
       accepted-step (512 + v) s h
@@ -75,23 +77,26 @@ module _ (s : State) where
     pub address-law :
         s .chip .phase ≡ AddressAwaited
         → stepOf b s
-        ≡ plain (acknowledge (isAddressed (s .chip .pins) b)) (inPhase (counted (s .chip)) (phaseAfterAddress (isAddressed (s .chip .pins) b) b)) s
+        ≡ nothingStored (acknowledge (isAddressed (s .chip .pins) b)) (inPhase (counted (s .chip)) (phaseAfterAddress (isAddressed (s .chip .pins) b) b)) s
+    unfolding counted
     address-law e = in-phase-told s b is-byte h AddressAwaited e
 
-    pub control-law : s .chip .phase ≡ ControlAwaited → stepOf b s ≡ plain Acknowledged (controlled b (counted (s .chip))) s
+    pub control-law : s .chip .phase ≡ ControlAwaited → stepOf b s ≡ nothingStored Acknowledged (controlled b (counted (s .chip))) s
     control-law e = in-phase-told s b is-byte h ControlAwaited e
 
     pub command-law :
         awaitsCommand (s .chip .phase) ≡ true
         → stepOf b s
-        ≡ plain Acknowledged (withRegisters (inPhase (counted (s .chip)) (afterContent (s .chip .phase))) (commandOf b (s .chip .registers))) s
+        ≡ nothingStored Acknowledged (withRegisters (inPhase (counted (s .chip)) (phaseAfterContent (s .chip .phase))) (commandOf b (s .chip .registers))) s
+    unfolding counted
     command-law t =
         by-phase s b is-byte h ∙ command-at (s .chip .phase) b (s .chip .count + 1) (state (counted (s .chip)) (s .memory) (s .writers)) t
 
     pub display-law : awaitsData (s .chip .phase) ≡ true → stepOf b s ≡ displayed b s
     display-law t = display-step s b is-byte h t
 
-    pub unheard-law : isDeaf (s .chip .phase) ≡ true → stepOf b s ≡ plain NotAcknowledged (inPhase (counted (s .chip)) (afterUnheard (s .chip .phase))) s
+    pub unheard-law : isDeaf (s .chip .phase) ≡ true → stepOf b s ≡ nothingStored NotAcknowledged (inPhase (counted (s .chip)) (afterUnheard (s .chip .phase))) s
+    unfolding counted
     unheard-law t =
         by-phase s b is-byte h ∙ unheard-at (s .chip .phase) b (s .chip .count + 1) (state (counted (s .chip)) (s .memory) (s .writers)) refl t
 
@@ -103,7 +108,7 @@ count-law e s h = rw (accepted-step e s h) (counts-accepted e s)
 
 -- a run over two lists is the run over the first, gone on with the second where the first was not stopped
 pub run-append : (xs ys : List ℕ) (s : State) → runOf (xs ++ ys) s ≡ continued (runOf xs s) ys
-unfolding runOf
+unfolding runOf runFrom
 run-append xs ys s = go (entryRefusal s)
   where
     go : (k : ℕ) → unlessStopped k 0 s (runFrom 0 (xs ++ ys) s) ≡ continued (unlessStopped k 0 s (runFrom 0 xs s)) ys

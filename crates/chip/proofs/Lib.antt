@@ -1,4 +1,3 @@
-pub mod Allowed
 pub mod Events
 pub mod LastWriter
 pub mod Laws

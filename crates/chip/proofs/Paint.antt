@@ -14,7 +14,8 @@ use Rattle.registers.specs.Places.{X, Y}
 use Rattle.registers.specs.Record.{put}
 use Rattle.registers.specs.Reversed.{reversedOf, ordered}
 use Rattle.registers.proofs.Below.{below-at}
-use Rattle.engine.specs.Display.{storedOf, placeOf, nextAddress}
+use Rattle.display.specs.Display
+use Rattle.display.specs.Display.{storedOf, placeOf, nextAddress}
 use Rattle.chip.specs.Paint.{mirrored, In, Paints}
 use Rattle.chip.specs.Plays
 use Rattle.chip.specs.Plays.{written}
@@ -118,7 +119,7 @@ next-down r v h = simp (eq-eqb (r .v) 1 v, lt-ltb (r .y) 16 h)
 one-cell :
     (r : Registers) (m : List ℕ) (b : ℕ) → r .x ≤ 100 → r .y ≤ 16 → length m ≡ 1717 → b < 256 → (r .y ≡ 16 → b < 64)
     → Paints (In (r .mx) (r .x) 1 (r .y) 1) b m (set m (placeOf r) (storedOf r (ordered (r .«data_order») b)))
-unfolding placeOf
+unfolding placeOf Display.columnOf
 one-cell r m b hx hy len hb bank =
     subst (λ (n : ℕ). Paints (In (r .mx) (r .x) 1 (r .y) 1) b m (set m (101 * r .y + mirrored (r .mx) (r .x)) n)) (sym (stored-back r b hb bank))
     (paints-cell (r .mx) (r .x) (r .y) b m hx hy len)

@@ -13,12 +13,13 @@ use Rattle.registers.specs.declared.Registers.{Registers}
 use Rattle.registers.specs.declared.Phase.{Phase}
 use Rattle.registers.specs.declared.Phase.the-variants.{Idle, AddressAwaited, ControlAwaited, OneByte, EndlessBytes}
 use Rattle.registers.specs.State.{State}
-use Rattle.engine.specs.Run.{runOf, unlessStopped}
-use Rattle.engine.specs.Step.{accepted}
+use Rattle.engine.specs.Run.{runOf, unlessStopped, runFrom}
+use Rattle.engine.specs.Step.{accepted, counted, controlled, acknowledge}
 use Rattle.engine.proofs.Refusals.{fit-entry}
+use Rattle.engine.specs.Phases.{isAddressed, phaseAfterAddress}
 use Rattle.chip.specs.LastWriter.{before}
 use Rattle.chip.specs.Plays.{Good, Plays, played, Sees, writeAddress, singles, message, dataMessage, commanded, advanced, written, Bytes}
-use Rattle.chip.specs.Promised.{Acknowledged, After, Fit, refusalOf, stepOf, runFrom, outcome, commandOf, storedOf, placeOf, nextAddress, isAddressed}
+use Rattle.chip.specs.Promised.{Acknowledged, After, Fit, refusalOf, stepOf, outcome, commandOf, storedOf, placeOf, nextAddress}
 use Rattle.chip.specs.When.{Listed}
 use Rattle.chip.proofs.Laws.{exactly-when, stays-fit, count-law, start-law, stop-law, address-law, control-law, command-law, display-law}
 use Rattle.registers.proofs.Within.{allowed-pins}
@@ -78,6 +79,7 @@ module _ (r : Registers) (m : List ℕ) (pins n : ℕ) (s : State) (v : Sees r m
       }
 
   start-plays : Good 256 s × Stands AddressAwaited r m pins n (stepOf 256 s .state)
+  unfolding counted
   start-plays =
       let h = accepts 256 (inl (omega arith)) in (
         record { not-refused = h; acknowledged = λ b. absurd (omega arith) },
@@ -85,6 +87,7 @@ module _ (r : Registers) (m : List ℕ) (pins n : ℕ) (s : State) (v : Sees r m
       )
 
   stop-plays : Good 257 s × Stands Idle r m pins n (stepOf 257 s .state)
+  unfolding counted
   stop-plays =
       let h = accepts 257 (inl (omega arith)) in (
         record { not-refused = h; acknowledged = λ b. absurd (omega arith) },
@@ -95,6 +98,7 @@ module _ (r : Registers) (m : List ℕ) (pins n : ℕ) (s : State) (v : Sees r m
   good-byte b a h step e = record { not-refused = h; acknowledged = λ _. ap (λ (x : After). x .answer) step ∙ e }
 
   address-plays : s .chip .phase ≡ AddressAwaited → Good (writeAddress pins) s × Stands ControlAwaited r m pins n (stepOf (writeAddress pins) s .state)
+  unfolding counted isAddressed phaseAfterAddress acknowledge
   address-plays e =
       let low : pins ≤ 3 = subst (λ (x : ℕ). x ≤ 3) (v .pins-are) (allowed-pins (s .chip) (v .fit .is-allowed)) in
       let byte : writeAddress pins < 256 = omega arith in
@@ -107,18 +111,21 @@ module _ (r : Registers) (m : List ℕ) (pins n : ℕ) (s : State) (v : Sees r m
       )
 
   single-plays : s .chip .phase ≡ ControlAwaited → Good 128 s × Stands (OneByte false) r m pins n (stepOf 128 s .state)
+  unfolding counted controlled
   single-plays e =
       let h = accepts-byte 128 (omega arith) in
       let law = control-law s 128 (omega arith) h e in
       (good-byte 128 _ h law refl, stands 128 h _ law (OneByte false) r m refl (v .registers) (v .memory) (v .pins-are))
 
   data-plays : s .chip .phase ≡ ControlAwaited → Good 64 s × Stands (EndlessBytes true) r m pins n (stepOf 64 s .state)
+  unfolding counted controlled
   data-plays e =
       let h = accepts-byte 64 (omega arith) in
       let law = control-law s 64 (omega arith) h e in
       (good-byte 64 _ h law refl, stands 64 h _ law (EndlessBytes true) r m refl (v .registers) (v .memory) (v .pins-are))
 
   command-plays : (b : ℕ) → b < 256 → s .chip .phase ≡ OneByte false → Good b s × Stands ControlAwaited (commandOf b r) m pins n (stepOf b s .state)
+  unfolding counted
   command-plays b byte e =
       let h = accepts-byte b byte in
       let law = command-law s b byte h (simp e) in
@@ -127,6 +134,7 @@ module _ (r : Registers) (m : List ℕ) (pins n : ℕ) (s : State) (v : Sees r m
   display-plays :
       (b : ℕ) → b < 256 → s .chip .phase ≡ EndlessBytes true
       → Good b s × Stands (EndlessBytes true) (nextAddress r) (set m (placeOf r) (storedOf r b)) pins n (stepOf b s .state)
+  unfolding counted
   display-plays b byte e =
       let h = accepts-byte b byte in
       let law = display-law s b byte h (simp e) in (
@@ -222,7 +230,7 @@ plays-good (e ∷ es) Q s p zero h = p .0
 plays-good (e ∷ es) Q s p (suc i) h = plays-good es Q (stepOf e s .state) (p .1) i (le-of-suc-le-suc h)
 
 from-plays : (n : ℕ) (es : List ℕ) (Q : State → Type 0) (s : State) → Plays es Q s → runFrom n es s ≡ outcome (n + length es) 0 (played es s)
-unfolding Plays
+unfolding Plays runFrom
 from-plays n [] Q s p = rw add-zero
 from-plays n (e ∷ es) Q s p =
     let step = accepted-step e s (p .0 .not-refused) in

@@ -14,8 +14,8 @@ use Rattle.registers.specs.Table.{Row, Part, rows, noRow, rowAt, taken}
 use Rattle.registers.proofs.Below.{below-at}
 use Rattle.registers.proofs.Encode.{FitParts, row-says, row-found, says-taken}
 use Rattle.registers.proofs.TableTest.{rowNo}
-use Rattle.engine.specs.Command.{commandOf, partsAt}
-use Rattle.engine.specs.Display.{nextAddress}
+use Rattle.commands.specs.Command.{commandOf, partsAt}
+use Rattle.display.specs.Display.{nextAddress}
 use Rattle.chip.specs.Plays
 use Rattle.chip.specs.Plays.{commanded, advanced}
 

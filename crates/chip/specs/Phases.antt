@@ -36,17 +36,6 @@ isDeaf (EndlessBytes rs) = false
 isDeaf Reading = true
 isDeaf ReadEnded = true
 
--- the phase after a command or display byte: a single byte is followed by a control byte, endless bytes by more of them
-abbrev pub afterContent : Phase → Phase
-afterContent Idle = Idle
-afterContent AddressAwaited = AddressAwaited
-afterContent Ignoring = Ignoring
-afterContent ControlAwaited = ControlAwaited
-afterContent (OneByte rs) = ControlAwaited
-afterContent (EndlessBytes rs) = EndlessBytes rs
-afterContent Reading = Reading
-afterContent ReadEnded = ReadEnded
-
 -- the phase after a byte that the chip does not take: a byte from the master while the chip reads out makes it ignore the rest
 abbrev pub afterUnheard : Phase → Phase
 afterUnheard Idle = Idle

@@ -1,6 +1,4 @@
+pub mod Allowed
+pub mod Events
 pub mod Refusals
-pub mod Memory
-pub mod Commands
-pub mod Bytes
-pub mod Steps
-pub mod Runs
+pub mod Ways

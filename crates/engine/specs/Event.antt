@@ -1,7 +1,7 @@
 -- The bus events of document 01 by their 16-bit numbers, and the answers by theirs.
-use mathlib.Core.Bool.{Bool, true, false, cond, _&&_}
+use mathlib.Core.Bool.{Bool, true, false, cond}
 use Prim.Native.Nat.{ℕ, _+_, _-_}
-use lib.Dec.{leb, ltb, eqb}
+use lib.Dec.{ltb, eqb}
 use Rattle.engine.specs.declared.event.Event.{Event}
 use Rattle.engine.specs.declared.event.Event.the-variants.{Byte, Start, Stop, ReadAcknowledged, ReadNotAcknowledged, Reset, Sensor, Unlisted}
 use Rattle.engine.specs.declared.answer.Answer.{Answer}
@@ -19,16 +19,6 @@ eventOf n =
     (cond (ltb n 768) (Sensor (n - 512))
     Unlisted)))))))
 
-abbrev pub isListed : Event → Bool
-isListed (Byte b) = true
-isListed Start = true
-isListed Stop = true
-isListed ReadAcknowledged = true
-isListed ReadNotAcknowledged = true
-isListed Reset = true
-isListed (Sensor s) = true
-isListed Unlisted = false
-
 -- the number of each answer: a refusal's is that of document 01's table, the others are the host's
 abbrev pub numberOf : Answer → ℕ
 numberOf (Refused n) = n
@@ -36,3 +26,11 @@ numberOf Nothing = 256
 numberOf Acknowledged = 257
 numberOf NotAcknowledged = 258
 numberOf (Read b) = 512 + b
+
+-- the answer to a byte that the chip took
+unfoldable pub isAcknowledged : Answer → Bool
+isAcknowledged (Refused n) = false
+isAcknowledged Nothing = false
+isAcknowledged Acknowledged = true
+isAcknowledged NotAcknowledged = false
+isAcknowledged (Read b) = false

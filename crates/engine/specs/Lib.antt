@@ -1,5 +1,4 @@
-pub mod Display
-pub mod Command
 pub mod Event
+pub mod Phases
 pub mod Step
 pub mod Run

@@ -20,7 +20,7 @@ unlessStopped zero n s rest = rest
 unlessStopped (suc k) n s rest = outcome n (suc k) s
 
 -- the events that are left, n being done
-abbrev pub runFrom : ℕ → List ℕ → State → Outcome
+unfoldable pub runFrom : ℕ → List ℕ → State → Outcome
 runFrom n [] s = outcome n 0 s
 runFrom n (e ∷ es) s = unlessStopped (refusalOf e s) n s (runFrom (n + 1) es (accepted e s .state))
 

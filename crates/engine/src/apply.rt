@@ -2,7 +2,7 @@
 ghost use mathlib.Core.Path.{_≡_};
 ghost use Rattle.registers.specs.State.{state};
 ghost use Rattle.engine.specs.declared.answer.Answer.the-variants.{Nothing, Read};
-ghost use Rattle.engine.specs.Step.{Fit, refusalOf, after, applied, accepted};
+ghost use Rattle.engine.specs.Step.{refusalOf, after, applied, accepted};
 use crate::answer::Answer;
 use crate::event::Event;
 use crate::step::Stepped;
@@ -31,7 +31,6 @@ fn with_byte_read(byte: u8, chip: Chip) -> Stepped
 
 // What an event does. The count is up to date, and `number` is the event's own.
 fn apply(event: Event, number: u64, chip: Chip, memory: &mut [u8], writers: &mut [u64]) -> Stepped
-    requires { ⌜ Fit (state chip (now memory) (now writers)) ⌝ }
     ensures { λ r. ⌜ after (r .answer) (r .chip) (now (memory .exit)) (now (writers .exit)) ≡ applied event number (state chip (now (memory .entry)) (now (writers .entry))) ⌝ }
 {
     match event {

@@ -2,11 +2,12 @@
 ghost use mathlib.Core.Path.{_≡_};
 ghost use mathlib.Core.Bool.{false};
 ghost use mathlib.Core.List.{List};
-ghost use Prim.Native.Nat.{ℕ, _≤_};
+ghost use Prim.Native.Nat.{ℕ};
 ghost use Rattle.registers.specs.Record.{inPhase};
 ghost use Rattle.registers.specs.State.{state};
 ghost use Rattle.engine.specs.declared.answer.Answer.the-variants.{NotAcknowledged};
-ghost use Rattle.engine.specs.Step.{Fit, after, contentOf, onByte, controlled, isAddressed, acknowledge, phaseAfterAddress, phaseAfterControl, rsOf, awaitsContent, contentRs, phaseAfterContent};
+ghost use Rattle.engine.specs.Phases.{isAddressed, phaseAfterAddress, phaseAfterControl, rsOf, awaitsContent, contentRs, phaseAfterContent};
+ghost use Rattle.engine.specs.Step.{after, acknowledge, controlled, contentOf, onByte};
 use crate::answer::Answer;
 use crate::step::Stepped;
 use registers::Chip;
@@ -14,10 +15,9 @@ use registers::Phase;
 
 // High seven bits 01111 SA1 SA0.
 fn is_addressed(pins: u8, byte: u8) -> bool
-    requires { ⌜ pins ≤ 3 ⌝ }
     ensures { λ r. ⌜ r ≡ isAddressed pins byte ⌝ }
 {
-    byte / 2 == 60 + pins
+    (byte / 2) as u16 == 60 + pins as u16
 }
 
 fn acknowledge(taken: bool) -> Answer
@@ -129,7 +129,6 @@ fn not_acknowledged(chip: Chip) -> Stepped
 }
 
 fn on_address(byte: u8, chip: Chip) -> Stepped
-    requires { ⌜ chip .pins ≤ 3 ⌝ }
     ensures { λ r. ⌜ r .answer ≡ acknowledge (isAddressed (chip .pins) byte) ⌝ }
     ensures { λ r. ⌜ r .chip ≡ inPhase chip (phaseAfterAddress (isAddressed (chip .pins) byte) byte) ⌝ }
 {
@@ -142,7 +141,6 @@ fn on_address(byte: u8, chip: Chip) -> Stepped
 
 // A byte where no content is awaited: it touches no memory.
 fn on_plain_byte(byte: u8, chip: Chip) -> Stepped
-    requires { ⌜ chip .pins ≤ 3 ⌝ }
     requires { ⌜ awaitsContent (chip .phase) ≡ false ⌝ }
     ensures { λ r. ⌜ ((number : ℕ) (m w : List ℕ) → after (r .answer) (r .chip) m w ≡ onByte (chip .phase) byte number (state chip m w)) ⌝ }
 {
@@ -173,19 +171,19 @@ fn content(
     memory: &mut [u8],
     writers: &mut [u64],
 ) -> Stepped
-    requires { ⌜ Fit (state chip (now memory) (now writers)) ⌝ }
-    ensures { λ r. ⌜ after (r .answer) (r .chip) (now (memory .exit)) (now (writers .exit)) ≡ contentOf rs phase byte number (state chip (now (memory .entry)) (now (writers .entry))) ⌝ }
+    ensures { λ r. ⌜ after (r .answer) (r .chip) (now (memory .exit)) (now (writers .exit))
+        ≡ contentOf rs phase byte number (state chip (now (memory .entry)) (now (writers .entry))) ⌝ }
 {
     let registers = chip.registers;
     let moved = chip.in_phase(phase);
     if rs {
-        let next = crate::display::display_byte(registers, memory, writers, byte, number);
+        let next = display::display_byte(registers, memory, writers, byte, number);
         return Stepped {
             answer: Answer::Acknowledged,
             chip: moved.with_registers(next),
         };
     }
-    let next = crate::command::command(registers, byte);
+    let next = commands::command(registers, byte);
     Stepped {
         answer: Answer::Acknowledged,
         chip: moved.with_registers(next),
@@ -194,7 +192,6 @@ fn content(
 
 // Content is called from one place alone, so that the chip's record is not copied for it.
 pub fn on_byte(byte: u8, number: u64, chip: Chip, memory: &mut [u8], writers: &mut [u64]) -> Stepped
-    requires { ⌜ Fit (state chip (now memory) (now writers)) ⌝ }
     ensures { λ r. ⌜ after (r .answer) (r .chip) (now (memory .exit)) (now (writers .exit)) ≡ onByte (chip .phase) byte number (state chip (now (memory .entry)) (now (writers .entry))) ⌝ }
 {
     let phase = chip.phase;

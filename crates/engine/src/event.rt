@@ -1,6 +1,6 @@
 // Bus events by their 16-bit numbers.
 ghost use mathlib.Core.Path.{_≡_};
-ghost use Rattle.engine.specs.Event.{eventOf, isListed};
+ghost use Rattle.engine.specs.Event.{eventOf};
 
 pub enum Event {
     Byte(u8),
@@ -42,20 +42,5 @@ impl Event {
             return Event::Sensor((number - 512) as u8);
         }
         Event::Unlisted
-    }
-
-    pub fn is_listed(self) -> bool
-        ensures { λ r. ⌜ r ≡ isListed self ⌝ }
-    {
-        match self {
-            Event::Byte(_) => true,
-            Event::Start => true,
-            Event::Stop => true,
-            Event::ReadAcknowledged => true,
-            Event::ReadNotAcknowledged => true,
-            Event::Reset => true,
-            Event::Sensor(_) => true,
-            Event::Unlisted => false,
-        }
     }
 }

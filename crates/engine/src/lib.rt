@@ -2,8 +2,6 @@
 pub mod answer;
 mod apply;
 mod byte;
-mod command;
-mod display;
 mod event;
 mod plain;
 mod refusal;

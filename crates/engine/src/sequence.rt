@@ -32,7 +32,7 @@ pub fn perform(chip: Chip, memory: &mut [u8], writers: &mut [u64], events: &[u16
     let mut done = 0;
     while done < events.len() {
         let event = events[done];
-        let refused = crate::refusal::of_event(event, now_chip, memory.len(), writers.len());
+        let refused = crate::refusal::of_step(event, now_chip, memory.len(), writers.len());
         if refused != 0 {
             return Performed {
                 done,

@@ -1,4 +1,5 @@
-use Rattle.engine.proofs.Steps.{counted-fit, accept-of}
+use Rattle.engine.proofs.Ways.{accept-of}
+use Rattle.engine.specs.Step.{counted}
 use Rattle.engine.proofs.Refusals.{accepts}
 use native.Mathlib.Omega.{arith}
 use borrow.Author.Needs.{needs}
@@ -12,7 +13,7 @@ of-requires : tie.Need-of-requires
 of-requires c κs = search needs
 
 apply-requires : tie.Need-apply-requires
-apply-requires c κs = counted-fit _ _ _ (accepts _ _ (c .before .before .before .before .before .before .pre) .fit)
+apply-requires c κs = search needs
 
 same-length : tie.Need-same-length
 same-length c = search needs
@@ -21,7 +22,10 @@ same-length-2 : tie.Need-same-length-2
 same-length-2 c = search needs
 
 returns : tie.Need-returns
-returns c = accept-of _ _ _ _ (c .before .before .before .before .before .before .before .of .ensures) (c .before .before .before .before .apply .ensures)
+unfolding counted
+returns c =
+    let applied = c .before .before .before .before in
+    accept-of _ _ _ _ (applied .before .before .before .of .ensures) (applied .apply .ensures)
 
 pub accept-spec : {M : Type 1} → statement M
 accept-spec =

@@ -1,4 +1,4 @@
-use Rattle.engine.proofs.Steps.{in-told-event, in-told-plain-event}
+use Rattle.engine.proofs.Ways.{in-told-event, in-told-plain-event}
 use Rattle.engine.specs.declared.answer.Answer.the-variants.{Read}
 use Rattle.engine.specs.Step.{applied}
 use Rattle.registers.specs.Record.{inPhase}

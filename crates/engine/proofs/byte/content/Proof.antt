@@ -1,5 +1,4 @@
-use Rattle.engine.proofs.Bytes.{display-content, command-content}
-use Rattle.engine.proofs.Memory.{fit-x, fit-y}
+use Rattle.engine.proofs.Ways.{display-content, command-content}
 use borrow.Author.Needs.{needs}
 use Rattle.engine.proofs.byte.content.Statement.{statement}
 use Rattle.engine.proofs.byte.content.Tie as tie
@@ -8,9 +7,7 @@ in-phase-requires : tie.Need-in-phase-requires
 in-phase-requires c κs = search needs
 
 display-byte-requires : tie.Need-display-byte-requires
-display-byte-requires c κs =
-    let fit = c .before .before .before .before .before .before .before .pre in
-    (fit-x _ fit, (fit-y _ fit, (fit .memory-long, fit .writers-long)))
+display-byte-requires c κs = search needs
 
 with-registers-requires : tie.Need-with-registers-requires
 with-registers-requires c κs = search needs

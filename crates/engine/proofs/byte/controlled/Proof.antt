@@ -1,3 +1,4 @@
+use Rattle.engine.specs.Step.{controlled}
 use borrow.Author.Needs.{needs}
 use Rattle.engine.proofs.byte.controlled.Statement.{statement}
 use Rattle.engine.proofs.byte.controlled.Tie as tie
@@ -12,6 +13,7 @@ rs-of-requires : tie.Need-rs-of-requires
 rs-of-requires c κs = search needs
 
 returns : tie.Need-returns
+unfolding controlled
 returns c = simp (c .rs-of .ensures, c .before .in-phase .ensures, c .before .before .phase-after-control .ensures)
 
 pub controlled-spec : {M : Type 1} → statement M

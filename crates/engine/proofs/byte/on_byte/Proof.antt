@@ -1,5 +1,4 @@
-use Rattle.engine.proofs.Bytes.{content-taken}
-use Rattle.engine.proofs.Memory.{fit-pins}
+use Rattle.engine.proofs.Ways.{content-taken}
 use mathlib.Core.Path.{sym, _∙_}
 use borrow.Author.Needs.{needs}
 use Rattle.engine.proofs.byte.on_byte.Statement.{statement}
@@ -25,11 +24,15 @@ same-length-2 c = search needs
 
 returns : tie.Need-returns
 returns c =
-    content-taken (c .before .before .before .before .before .before .before .before .before .before .before .before .before .args .chip .phase) _ _ _ _ _ _ _ (c .before .before .before .before .before .before .before .before .before .before .awaits-content .ensures) (c .before .before .before .before .before .before .before .before .before .if1 .taken) (c .before .before .before .before .before .before .before .before .content-rs .ensures) (c .before .before .before .before .before .before .before .phase-after-content .ensures)
-    (c .before .before .before .before .content .ensures)
+    let taken = c .before .before .before .before in
+    let next = taken .before .before .before in
+    let rs = next .before in
+    let awaits = rs .before .before in
+    content-taken (awaits .before .before .before .args .chip .phase) _ _ _ _ _ _ _ (awaits .awaits-content .ensures) (rs .before .if1 .taken)
+    (rs .content-rs .ensures) (next .phase-after-content .ensures) (taken .content .ensures)
 
 on-plain-byte-requires : tie.Need-on-plain-byte-requires
-on-plain-byte-requires c κs = (fit-pins _ (c .before .before .before .before .pre), sym (c .before .awaits-content .ensures) ∙ c .if1 .left)
+on-plain-byte-requires c κs = sym (c .before .awaits-content .ensures) ∙ c .if1 .left
 
 returns-2 : tie.Need-returns-2
 returns-2 c = c .on-plain-byte .ensures _ _ _

@@ -1,4 +1,4 @@
-use Rattle.engine.proofs.Bytes.{in-told-phase, no-content}
+use Rattle.engine.proofs.Ways.{in-told-phase, no-content}
 use mathlib.Core.Path.{refl}
 use borrow.Author.Needs.{needs}
 use Rattle.engine.proofs.byte.on_plain_byte.Statement.{statement}
@@ -71,10 +71,10 @@ returns-4 : tie.Need-returns-4
 returns-4 c number m w = in-told-phase _ _ _ _ _ _ (c .before .enum-told4 .given .1) (simp (c .controlled .ensures))
 
 returns-5 : tie.Need-returns-5
-returns-5 c number m w = no-content _ _ _ _ (c .before .enum-told5 .given .1) refl (c .before .before .before .pre .1)
+returns-5 c number m w = no-content _ _ _ _ (c .before .enum-told5 .given .1) refl (c .before .before .before .pre)
 
 returns-6 : tie.Need-returns-6
-returns-6 c number m w = no-content _ _ _ _ (c .before .enum-told6 .given .1) refl (c .before .before .before .pre .1)
+returns-6 c number m w = no-content _ _ _ _ (c .before .enum-told6 .given .1) refl (c .before .before .before .pre)
 
 returns-7 : tie.Need-returns-7
 returns-7 c number m w = in-told-phase _ _ _ _ _ _ (c .before .before .enum-told7 .given .1) (simp (c .not-acknowledged5 .ensures .0, c .not-acknowledged5 .ensures .1, c .before .in-phase .ensures))

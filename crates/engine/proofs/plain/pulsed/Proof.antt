@@ -1,3 +1,4 @@
+use Rattle.engine.specs.Step.{pulsed}
 use borrow.Author.Needs.{needs}
 use Rattle.engine.proofs.plain.pulsed.Statement.{statement}
 use Rattle.engine.proofs.plain.pulsed.Tie as tie
@@ -6,6 +7,7 @@ reset-requires : tie.Need-reset-requires
 reset-requires c κs = search needs
 
 returns : tie.Need-returns
+unfolding pulsed
 returns c = simp (c .reset .ensures)
 
 pub pulsed-spec : {M : Type 1} → statement M

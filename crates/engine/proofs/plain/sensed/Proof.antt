@@ -1,10 +1,13 @@
+use Rattle.engine.specs.Step.{sensed}
 use Rattle.engine.proofs.plain.sensed.Statement.{statement}
 use Rattle.engine.proofs.plain.sensed.Tie as tie
 
 returns : tie.Need-returns
+unfolding sensed
 returns c = simp (c .if1 .taken)
 
 returns-2 : tie.Need-returns-2
+unfolding sensed
 returns-2 c = simp (c .if1 .left)
 
 pub sensed-spec : {M : Type 1} → statement M

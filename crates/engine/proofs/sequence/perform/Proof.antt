@@ -1,7 +1,7 @@
-use Rattle.engine.proofs.Runs.{run-stops, run-goes-on, run-ends, run-refused, run-entered}
-use Rattle.engine.proofs.Runs.{answer-stops, answer-goes-on, answer-ends, answer-refused, answer-entered}
+use Rattle.engine.proofs.Ways.{run-stops, run-goes-on, run-ends, run-refused, run-entered}
+use Rattle.engine.proofs.Ways.{answer-stops, answer-goes-on, answer-ends, answer-refused, answer-entered}
 use Rattle.engine.specs.Run.{runFrom, answerFrom}
-use Rattle.engine.specs.Step.{refusalOf}
+use Rattle.engine.specs.Step.{refusalOf, entryRefusal}
 use Rattle.registers.specs.State.{state}
 use lib.ListN.{length, drop}
 use native.Mathlib.Omega.{arith}
@@ -27,7 +27,10 @@ at-entry-requires : tie.Need-at-entry-requires Inv-loop μ-loop
 at-entry-requires c κs = search needs
 
 returns : tie.Need-returns Inv-loop μ-loop
-returns c = (run-refused _ _ _ (c .before .at-entry .ensures) (c .if1 .taken), answer-refused _ _ _ (c .before .at-entry .ensures) (c .if1 .taken))
+unfolding entryRefusal
+returns c =
+    let refused = c .before .at-entry .ensures in
+    (run-refused _ _ _ refused (c .if1 .taken), answer-refused _ _ _ refused (c .if1 .taken))
 
 loop-holds : tie.Need-loop-holds Inv-loop μ-loop
 loop-holds c = (search needs, refl, refl, refl, refl)
@@ -38,8 +41,8 @@ mul-event c = search needs
 shared-slice-read-event : tie.Need-shared-slice-read-event Inv-loop μ-loop
 shared-slice-read-event c = search needs
 
-of-event-requires : tie.Need-of-event-requires Inv-loop μ-loop
-of-event-requires c κs = search needs
+of-step-requires : tie.Need-of-step-requires Inv-loop μ-loop
+of-step-requires c κs = search needs
 
 same-length : tie.Need-same-length Inv-loop μ-loop
 same-length c = search needs
@@ -48,33 +51,35 @@ same-length-2 : tie.Need-same-length-2 Inv-loop μ-loop
 same-length-2 c = search needs
 
 returns-2 : tie.Need-returns-2 Inv-loop μ-loop
-unfolding refusalOf
+unfolding refusalOf entryRefusal
 returns-2 c =
     let entry = c .before .before .before .before .before .before .at-entry .ensures in
     let entered = c .before .before .before .before .before .if1 .left in
     let inside = c .before .before .before .loop-test .taken in
     let at-head = c .before .before .before .before .loop .inv in
-    let refused = c .before .of-event .ensures in (
+    let refused = c .before .of-step .ensures in (
       run-entered _ _ _ _ entry entered (sym (run-stops _ _ inside _ _ refused (c .if2 .taken)) ∙ at-head .3),
       answer-entered _ _ _ _ entry entered (sym (answer-stops _ _ inside _ _ _ refused (c .if2 .taken)) ∙ at-head .4),
     )
 
 accept-requires : tie.Need-accept-requires Inv-loop μ-loop
-unfolding refusalOf
-accept-requires c κs = sym (c .before .before .before .of-event .ensures) ∙ c .before .before .if2 .left
+unfolding refusalOf entryRefusal
+accept-requires c κs = sym (c .before .before .before .of-step .ensures) ∙ c .before .before .if2 .left
 
 add-done : tie.Need-add-done Inv-loop μ-loop
-add-done c = omega (arith, c .before .before .before .before .before .before .before .before .before .before .before .before .before .before .before .before .before .before .good .1)
+add-done c =
+    let inside = c .before .before .before .before .before .before .before .before in
+    omega (arith, inside .before .before .before .before .before .before .before .before .before .before .good .1)
 
 loop-less : tie.Need-loop-less Inv-loop μ-loop
 loop-less c = search needs
 
 loop-again : tie.Need-loop-again Inv-loop μ-loop
-unfolding refusalOf
+unfolding refusalOf entryRefusal
 loop-again c =
     let at-head = c .before .before .before .before .before .before .before .before .before .before .before .before .loop .inv in
     let inside = c .before .before .before .before .before .before .before .before .before .before .before .loop-test .taken in
-    let refused = c .before .before .before .before .before .before .before .before .before .of-event .ensures in
+    let refused = c .before .before .before .before .before .before .before .before .before .of-step .ensures in
     let none = c .before .before .before .before .before .before .before .before .if2 .left in
     let accepts = c .before .before .before .before .before .accept in (
       omega (arith, inside),
@@ -91,6 +96,7 @@ same-length-4 : tie.Need-same-length-4 Inv-loop μ-loop
 same-length-4 c = search needs
 
 returns-3 : tie.Need-returns-3 Inv-loop μ-loop
+unfolding entryRefusal
 returns-3 c =
     let entry = c .before .before .before .at-entry .ensures in
     let entered = c .before .before .if1 .left in
@@ -111,7 +117,7 @@ perform-spec =
     loop-holds
     mul-event
     shared-slice-read-event
-    of-event-requires
+    of-step-requires
     same-length
     same-length-2
     returns-2

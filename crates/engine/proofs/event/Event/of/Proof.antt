@@ -1,4 +1,7 @@
-use borrow.Author.Tests.{ne-eqb, lt-ltb, le-ltb}
+use mathlib.Core.Path.{sym}
+use native.Mathlib.Omega.{arith}
+use borrow.Author.Tests.{lt-ltb}
+use Rattle.engine.proofs.Events.{between-event, reading-event, high-event}
 use borrow.Author.Needs.{needs}
 use Rattle.engine.proofs.event.Event.of.Statement.{statement}
 use Rattle.engine.proofs.event.Event.of.Tie as tie
@@ -25,16 +28,16 @@ returns-6 : tie.Need-returns-6
 returns-6 c = rw (c .if6 .taken)
 
 returns-7 : tie.Need-returns-7
-returns-7 c = simp (le-ltb _ _ (c .before .before .before .before .before .before .if1 .left), ne-eqb _ _ (c .before .before .before .before .before .if2 .left), ne-eqb _ _ (c .before .before .before .before .if3 .left), ne-eqb _ _ (c .before .before .before .if4 .left), ne-eqb _ _ (c .before .before .if5 .left), ne-eqb _ _ (c .before .if6 .left), lt-ltb _ _ (c .if7 .taken))
+returns-7 c = sym (between-event _ (omega arith) (c .if7 .taken))
 
 cast-t5 : tie.Need-cast-t5
 cast-t5 c = search needs
 
 returns-8 : tie.Need-returns-8
-returns-8 c = simp (le-ltb _ _ (c .before .before .before .before .before .before .before .if1 .left), ne-eqb _ _ (c .before .before .before .before .before .before .if2 .left), ne-eqb _ _ (c .before .before .before .before .before .if3 .left), ne-eqb _ _ (c .before .before .before .before .if4 .left), ne-eqb _ _ (c .before .before .before .if5 .left), ne-eqb _ _ (c .before .before .if6 .left), le-ltb _ _ (c .before .if7 .left), lt-ltb _ _ (c .if8 .taken))
+returns-8 c = sym (reading-event _ (c .before .if7 .left) (c .if8 .taken))
 
 returns-9 : tie.Need-returns-9
-returns-9 c = simp (le-ltb _ _ (c .before .before .before .before .before .before .before .if1 .left), ne-eqb _ _ (c .before .before .before .before .before .before .if2 .left), ne-eqb _ _ (c .before .before .before .before .before .if3 .left), ne-eqb _ _ (c .before .before .before .before .if4 .left), ne-eqb _ _ (c .before .before .before .if5 .left), ne-eqb _ _ (c .before .before .if6 .left), le-ltb _ _ (c .before .if7 .left), le-ltb _ _ (c .if8 .left))
+returns-9 c = sym (high-event _ (c .if8 .left))
 
 pub of-spec : {M : Type 1} → statement M
 of-spec =

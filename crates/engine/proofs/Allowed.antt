@@ -1,0 +1,82 @@
+-- An allowed record stays allowed after any accepted event, and the lent memories keep their length.
+use mathlib.Core.Path.{_≡_, refl, _∙_}
+use mathlib.Core.Bool.{Bool, true, false}
+use mathlib.Core.List.{List}
+use Prim.Native.Nat.{ℕ, _+_, _<_}
+use lib.Dec.{leb}
+use lib.ListN.{length-set}
+use Rattle.registers.specs.declared.Registers.{Registers}
+use Rattle.registers.specs.declared.Chip.{Chip}
+use Rattle.registers.specs.declared.Phase.{Phase}
+use Rattle.registers.specs.declared.Phase.the-variants.{Idle, AddressAwaited, Ignoring, ControlAwaited, OneByte, EndlessBytes, Reading, ReadEnded}
+use Rattle.registers.specs.Record.{allowed, allowedRegisters, withRegisters, inPhase}
+use Rattle.registers.specs.State.{State, state}
+use Rattle.registers.proofs.Within.{allowed-registers, both-right}
+use Rattle.commands.proofs.Allowed.{command-allowed}
+use Rattle.display.specs.Display.{placeOf, storedOf}
+use Rattle.display.proofs.Address.{place-bound, next-allowed}
+use Rattle.engine.specs.declared.event.Event.{Event}
+use Rattle.engine.specs.declared.event.Event.the-variants.{Byte, Start, Stop, ReadAcknowledged, ReadNotAcknowledged, Reset, Sensor, Unlisted}
+use Rattle.engine.specs.Event.{eventOf}
+use Rattle.engine.specs.Step.{Fit, controlled, pulsed, sensed, contentOf, onByte, applied, accepted, counted}
+
+-- the display address of what 1 and 2 let pass is within the memories
+pub fit-place : (s : State) → Fit s → placeOf (s .chip .registers) < 1717
+fit-place s fit = place-bound (s .chip .registers) (allowed-registers (s .chip) (fit .is-allowed))
+
+with-registers-allowed :
+    (c : Chip) (p : Phase) (r : Registers) → allowed c ≡ true → allowedRegisters r ≡ true → allowed (withRegisters (inPhase c p) r) ≡ true
+unfolding allowed
+with-registers-allowed c p r h hr = simp (hr, both-right (allowedRegisters (c .registers)) (leb (c .pins) 3) h)
+
+content-fit : (rs : Bool) (p : Phase) (b number : ℕ) (s : State) → Fit s → Fit (contentOf rs p b number s .state)
+content-fit false p b number s fit =
+    let before = allowed-registers (s .chip) (fit .is-allowed) in
+    record {
+      memory-long = fit .memory-long;
+      writers-long = fit .writers-long;
+      is-allowed = with-registers-allowed (s .chip) p _ (fit .is-allowed) (command-allowed b (s .chip .registers) before);
+    }
+content-fit true p b number s fit =
+    let before = allowed-registers (s .chip) (fit .is-allowed) in
+    record {
+      memory-long = length-set (s .memory) (placeOf (s .chip .registers)) (storedOf (s .chip .registers) b) ∙ fit .memory-long;
+      writers-long = length-set (s .writers) (placeOf (s .chip .registers)) number ∙ fit .writers-long;
+      is-allowed = with-registers-allowed (s .chip) p _ (fit .is-allowed) (next-allowed (s .chip .registers) before);
+    }
+
+-- another record with the same registers and pins
+same-fit : (s : State) (c : Chip) → allowed c ≡ allowed (s .chip) → Fit s → Fit (state c (s .memory) (s .writers))
+same-fit s c e fit = record { memory-long = fit .memory-long; writers-long = fit .writers-long; is-allowed = e ∙ fit .is-allowed }
+
+byte-fit : (p : Phase) (b number : ℕ) (s : State) → Fit s → Fit (onByte p b number s .state)
+unfolding allowed controlled
+byte-fit Idle b number s fit = same-fit s (s .chip) refl fit
+byte-fit AddressAwaited b number s fit = same-fit s _ refl fit
+byte-fit Ignoring b number s fit = same-fit s (s .chip) refl fit
+byte-fit ControlAwaited b number s fit = same-fit s _ refl fit
+byte-fit (OneByte rs) b number s fit = content-fit rs ControlAwaited b number s fit
+byte-fit (EndlessBytes rs) b number s fit = content-fit rs (EndlessBytes rs) b number s fit
+byte-fit Reading b number s fit = same-fit s _ refl fit
+byte-fit ReadEnded b number s fit = same-fit s _ refl fit
+
+applied-fit : (v : Event) (number : ℕ) (s : State) → Fit s → Fit (applied v number s .state)
+unfolding applied allowed pulsed sensed
+applied-fit (Byte b) number s fit = byte-fit (s .chip .phase) b number s fit
+applied-fit Start number s fit = same-fit s _ refl fit
+applied-fit Stop number s fit = same-fit s _ refl fit
+applied-fit ReadAcknowledged number s fit = same-fit s _ refl fit
+applied-fit ReadNotAcknowledged number s fit = same-fit s _ refl fit
+applied-fit Reset number s fit =
+    record {
+      memory-long = fit .memory-long;
+      writers-long = fit .writers-long;
+      is-allowed = both-right (allowedRegisters (s .chip .registers)) (leb (s .chip .pins) 3) (fit .is-allowed);
+    }
+applied-fit (Sensor value) number s fit = same-fit s _ refl fit
+applied-fit Unlisted number s fit = same-fit s _ refl fit
+
+pub accepted-fit : (e : ℕ) (s : State) → Fit s → Fit (accepted e s .state)
+unfolding accepted counted allowed
+accepted-fit e s fit =
+    applied-fit (eventOf e) (s .chip .count + 1) (state (counted (s .chip)) (s .memory) (s .writers)) (same-fit s (counted (s .chip)) refl fit)

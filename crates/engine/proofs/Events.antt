@@ -1,0 +1,36 @@
+-- The kind of an event by its number: a byte, a sensor reading, or one that is not listed.
+use mathlib.Core.Bool.{cond}
+use mathlib.Core.Path.{_≡_, ap, _∙_}
+use Prim.Native.Nat.{ℕ, _+_, _-_, _<_, _≤_}
+use native.Mathlib.Omega.{arith}
+use borrow.Author.Tests.{lt-ltb, le-ltb, ne-eqb}
+use lib.Dec.{ltb}
+use Rattle.engine.specs.declared.event.Event.the-variants.{Byte, Sensor, Unlisted}
+use Rattle.engine.specs.Event.{eventOf}
+
+pub byte-event : (b : ℕ) → b < 256 → eventOf b ≡ Byte b
+byte-event b h = simp (lt-ltb b 256 h)
+
+-- the tests that fail above 260
+past-reset : (e : ℕ) → 260 < e → eventOf e ≡ cond (ltb e 512) Unlisted (cond (ltb e 768) (Sensor (e - 512)) Unlisted)
+past-reset e h =
+    simp (
+      le-ltb e 256 (omega arith),
+      ne-eqb e 256 (λ q. omega arith),
+      ne-eqb e 257 (λ q. omega arith),
+      ne-eqb e 258 (λ q. omega arith),
+      ne-eqb e 259 (λ q. omega arith),
+      ne-eqb e 260 (λ q. omega arith),
+    )
+
+pub between-event : (e : ℕ) → 260 < e → e < 512 → eventOf e ≡ Unlisted
+between-event e h l = past-reset e h ∙ simp (lt-ltb e 512 l)
+
+pub reading-event : (e : ℕ) → 512 ≤ e → e < 768 → eventOf e ≡ Sensor (e - 512)
+reading-event e h l = past-reset e (omega arith) ∙ simp (le-ltb e 512 h, lt-ltb e 768 l)
+
+pub high-event : (e : ℕ) → 768 ≤ e → eventOf e ≡ Unlisted
+high-event e h = past-reset e (omega arith) ∙ simp (le-ltb e 512 (omega arith), le-ltb e 768 h)
+
+pub sensor-event : (v : ℕ) → v < 256 → eventOf (512 + v) ≡ Sensor v
+sensor-event v h = reading-event (512 + v) (omega arith) (omega arith) ∙ ap Sensor (omega arith)

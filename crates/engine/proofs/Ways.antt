@@ -1,0 +1,168 @@
+-- Ways through the code, over plain variables: of a byte, of an event, and of a run.
+use mathlib.Core.Path.{_≡_, refl, sym, ap, ap₂, _∙_, subst}
+use mathlib.Core.Bool.{Bool, true, false}
+use mathlib.Core.List.{List, [], _∷_}
+use Prim.Native.Nat.{ℕ, zero, suc, _+_, _<_}
+use native.Mathlib.Numerals.{add-one}
+use lib.ListN.{length, getD, drop, set}
+use lib.Seq.{drop-cons, drop-length}
+use Rattle.registers.specs.declared.Registers.{Registers}
+use Rattle.registers.specs.declared.Chip.{Chip}
+use Rattle.registers.specs.declared.Phase.{Phase}
+use Rattle.registers.specs.declared.Phase.the-variants.{Idle, AddressAwaited, Ignoring, ControlAwaited, OneByte, EndlessBytes, Reading, ReadEnded}
+use Rattle.registers.specs.Record.{inPhase, withRegisters}
+use Rattle.registers.specs.Refusals.{_then_}
+use Rattle.registers.specs.State.{State, state}
+use Rattle.commands.specs.Command.{commandOf}
+use Rattle.display.specs.Display.{storedOf, placeOf, nextAddress}
+use Rattle.engine.specs.declared.answer.Answer.{Answer}
+use Rattle.engine.specs.declared.answer.Answer.the-variants.{Refused, Nothing, Acknowledged}
+use Rattle.engine.specs.declared.event.Event.{Event}
+use Rattle.engine.specs.Event.{eventOf}
+use Rattle.engine.specs.Phases.{awaitsContent, contentRs, phaseAfterContent}
+use Rattle.engine.specs.Run.{Outcome, outcome, runFrom, runOf, unlessStopped, answerUnless, answerFrom, lastAnswer}
+use Rattle.engine.specs.Step.{After, after, nothingStored, contentOf, onByte, applied, accepted, counted}
+use Rattle.engine.specs.Step.{entryRefusal, eventRefusal, refusalOf, unlessRefused, stepOf}
+
+-- ---- a byte
+
+module _ (rs : Bool) (p : Phase) (b number : ℕ) (s : State) where
+  pub display-content :
+      (moved c′ : Chip) (next : Registers) (m w : List ℕ) → rs ≡ true → moved ≡ inPhase (s .chip) p → next ≡ nextAddress (s .chip .registers)
+      → m ≡ set (s .memory) (placeOf (s .chip .registers)) (storedOf (s .chip .registers) b)
+      → w ≡ set (s .writers) (placeOf (s .chip .registers)) number
+      → c′ ≡ withRegisters moved next
+      → after Acknowledged c′ m w ≡ contentOf rs p b number s
+  display-content moved c′ next m w t e n em ew ec = simp (t, ec, e, n, em, ew)
+
+  pub command-content :
+      (moved c′ : Chip) (next : Registers) → rs ≡ false → moved ≡ inPhase (s .chip) p → next ≡ commandOf b (s .chip .registers)
+      → c′ ≡ withRegisters moved next
+      → after Acknowledged c′ (s .memory) (s .writers) ≡ contentOf rs p b number s
+  command-content moved c′ next t e n ec = simp (t, ec, e, n)
+
+-- the phase is told: what is right in that phase is right
+pub in-told-phase : (told phase : Phase) (b number : ℕ) (s : State) (a : After) → phase ≡ told → a ≡ onByte told b number s → a ≡ onByte phase b number s
+in-told-phase told phase b number s a e h = subst (λ (p : Phase). a ≡ onByte p b number s) (sym e) h
+
+-- where content is awaited, the phase says its RS and what comes after it
+in-content-phase :
+    (p : Phase) (b number : ℕ) (s : State) → awaitsContent p ≡ true
+    → contentOf (contentRs p) (phaseAfterContent p) b number s ≡ onByte p b number s
+in-content-phase Idle b number s t = cc
+in-content-phase AddressAwaited b number s t = cc
+in-content-phase Ignoring b number s t = cc
+in-content-phase ControlAwaited b number s t = cc
+in-content-phase (OneByte rs) b number s t = refl
+in-content-phase (EndlessBytes rs) b number s t = refl
+in-content-phase Reading b number s t = cc
+in-content-phase ReadEnded b number s t = cc
+
+pub content-taken :
+    (p next : Phase) (rs awaits : Bool) (b number : ℕ) (s : State) (a : After)
+    → awaits ≡ awaitsContent p → awaits ≡ true → rs ≡ contentRs p → next ≡ phaseAfterContent p → a ≡ contentOf rs next b number s
+    → a ≡ onByte p b number s
+content-taken p next rs awaits b number s a e t er en h = h ∙ rw (er, en) (in-content-phase p b number s (sym e ∙ t))
+
+-- the phase is told, and is not one that awaits content
+pub no-content : (told phase : Phase) (a a′ : After) → phase ≡ told → awaitsContent told ≡ true → awaitsContent phase ≡ false → a ≡ a′
+no-content told phase a a′ e t f = cc
+
+-- ---- an event
+
+-- the event is told: what is right for it is right
+pub in-told-event : (told event : Event) (number : ℕ) (s : State) (a : After) → event ≡ told → a ≡ applied told number s → a ≡ applied event number s
+in-told-event told event number s a e h = subst (λ (v : Event). a ≡ applied v number s) (sym e) h
+
+-- the same for an event that touches no memory, its answer and the chip after it being told
+pub in-told-plain-event :
+    (told event : Event) (number : ℕ) (s : State) (a a′ : Answer) (c c′ : Chip) → event ≡ told → a ≡ a′ → c ≡ c′
+    → nothingStored a′ c′ s ≡ applied told number s → nothingStored a c s ≡ applied event number s
+in-told-plain-event told event number s a a′ c c′ e ea ec h =
+    in-told-event told event number s _ e (ap₂ (λ (x : Answer) (y : Chip). nothingStored x y s) ea ec ∙ h)
+
+pub accept-of :
+    (e : ℕ) (s : State) (event : Event) (a : After) → event ≡ eventOf e
+    → a ≡ applied event (s .chip .count + 1) (state (counted (s .chip)) (s .memory) (s .writers)) → a ≡ accepted e s
+unfolding accepted
+accept-of e s event a told h = h ∙ ap (λ (v : Event). applied v (s .chip .count + 1) (state (counted (s .chip)) (s .memory) (s .writers))) told
+
+-- ---- a run
+
+drop-next : (es : List ℕ) (n : ℕ) → n < length es → drop n es ≡ getD es n 0 ∷ drop (n + 1) es
+drop-next es n h = rw (add-one, drop-cons es n 0)
+
+-- the event at place n, the state before it, and what it does
+module _ (es : List ℕ) (n : ℕ) (h : n < length es) (s : State) where
+  here :
+      runFrom n (drop n es) s
+      ≡ unlessStopped (refusalOf (getD es n 0) s) n s (runFrom (n + 1) (drop (n + 1) es) (accepted (getD es n 0) s .state))
+  unfolding runFrom
+  here = ap (λ (l : List ℕ). runFrom n l s) (drop-next es n h)
+
+  pub run-stops : (x : ℕ) → x ≡ refusalOf (getD es n 0) s → (x ≡ 0 → ⊥) → runFrom n (drop n es) s ≡ outcome n x s
+  run-stops zero e z = absurd (z refl)
+  run-stops (suc k) e z = here ∙ rw (← e)
+
+  pub run-goes-on :
+      (x : ℕ) (a : After) → x ≡ refusalOf (getD es n 0) s → x ≡ 0 → a ≡ accepted (getD es n 0) s
+      → runFrom n (drop n es) s ≡ runFrom (n + 1) (drop (n + 1) es) (a .state)
+  run-goes-on x a e z ea = here ∙ rw (sym e ∙ z, ea)
+
+  answer-here :
+      (a : Answer) → answerFrom (drop n es) s a
+      ≡ answerUnless (refusalOf (getD es n 0) s) (answerFrom (drop (n + 1) es) (accepted (getD es n 0) s .state) (accepted (getD es n 0) s .answer))
+  answer-here a = ap (λ (l : List ℕ). answerFrom l s a) (drop-next es n h)
+
+  pub answer-stops : (x : ℕ) (a : Answer) → x ≡ refusalOf (getD es n 0) s → (x ≡ 0 → ⊥) → answerFrom (drop n es) s a ≡ Refused x
+  answer-stops zero a e z = absurd (z refl)
+  answer-stops (suc k) a e z = answer-here a ∙ rw (← e)
+
+  pub answer-goes-on :
+      (x : ℕ) (a : Answer) (b : After) → x ≡ refusalOf (getD es n 0) s → x ≡ 0 → b ≡ accepted (getD es n 0) s
+      → answerFrom (drop n es) s a ≡ answerFrom (drop (n + 1) es) (b .state) (b .answer)
+  answer-goes-on x a b e z eb = answer-here a ∙ rw (sym e ∙ z, eb)
+
+pub run-ends : (es : List ℕ) (n : ℕ) (s : State) → n ≡ length es → runFrom n (drop n es) s ≡ outcome n 0 s
+unfolding runFrom
+run-ends es n s e = rw (e, drop-length)
+
+pub run-refused : (es : List ℕ) (s : State) (x : ℕ) → x ≡ entryRefusal s → (x ≡ 0 → ⊥) → outcome 0 x s ≡ runOf es s
+unfolding runOf
+run-refused es s zero e n = absurd (n refl)
+run-refused es s (suc k) e n = rw (← e)
+
+pub run-entered : (es : List ℕ) (s : State) (x : ℕ) (o : Outcome) → x ≡ entryRefusal s → x ≡ 0 → o ≡ runFrom 0 es s → o ≡ runOf es s
+unfolding runOf
+run-entered es s x o e z h = rw (sym e ∙ z) h
+
+pub answer-ends : (es : List ℕ) (n : ℕ) (s : State) (a : Answer) → n ≡ length es → answerFrom (drop n es) s a ≡ a
+answer-ends es n s a e = rw (e, drop-length)
+
+pub answer-refused : (es : List ℕ) (s : State) (x : ℕ) → x ≡ entryRefusal s → (x ≡ 0 → ⊥) → Refused x ≡ lastAnswer es s
+unfolding lastAnswer
+answer-refused es s zero e n = absurd (n refl)
+answer-refused es s (suc k) e n = rw (← e)
+
+pub answer-entered : (es : List ℕ) (s : State) (x : ℕ) (a : Answer) → x ≡ entryRefusal s → x ≡ 0 → a ≡ answerFrom es s Nothing → a ≡ lastAnswer es s
+unfolding lastAnswer
+answer-entered es s x a e z h = rw (sym e ∙ z) h
+
+-- a run over one event is a step: the entry refuses first, then the event
+one-event :
+    (entry later : ℕ) (a : After) (s : State)
+    → record {
+      answer = answerUnless entry (answerUnless (entry then later) (a .answer));
+      state = unlessStopped entry 0 s (unlessStopped (entry then later) 0 s (outcome 1 0 (a .state))) .state;
+    }
+    ≡ unlessRefused (entry then later) a s
+one-event zero zero a s = refl
+one-event zero (suc k) a s = refl
+one-event (suc k) later a s = refl
+
+pub step-of-run :
+    (e : ℕ) (s s′ : State) (n k : ℕ) (a : Answer) → outcome n k s′ ≡ runOf (e ∷ []) s → a ≡ lastAnswer (e ∷ []) s
+    → record { answer = a; state = s′ } ≡ stepOf e s
+unfolding runOf runFrom lastAnswer stepOf refusalOf
+step-of-run e s s′ n k a eo ea =
+    rw (ea, ap (λ (o : Outcome). o .state) eo) (one-event (entryRefusal s) (eventRefusal e (s .chip .count)) (accepted e s) s)
