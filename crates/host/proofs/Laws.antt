@@ -7,12 +7,12 @@ use Prim.Native.Nat.{ℕ, suc, _-_, _^_}
 use native.Mathlib.Nat.{suc-ne-zero}
 use lib.Dec.{eqb}
 use lib.ListN.{length, getD}
+use Rattle.registers.specs.Refusals.{refuse, _then_}
 use Rattle.registers.specs.State.{state, places}
 use Rattle.registers.proofs.Below.{true-false}
 use Rattle.compiler.proofs.Laws.{two-exactly}
-use Rattle.engine.specs.Event.{eventOf, isListed}
 use Rattle.engine.specs.Step as inside
-use Rattle.engine.specs.Step.{refuse, _then_, refusalOf, accepted, stepOf}
+use Rattle.engine.specs.Step.{eventRefusal, refusalOf, accepted, stepOf}
 use Rattle.engine.specs.Run.{runFrom, runOf}
 use Rattle.host.specs.Words.{COUNT, standsFor, chipOf}
 use Rattle.host.specs.Calls.{noRecord, stepped, stepCall, stepRefusal, afterStep, entryRefusal, ran, runCall, afterRun}
@@ -31,6 +31,7 @@ module _ (ws m w : List ℕ) where
   entry-of-none n = rw n
 
   entry-of-chip : standsFor ws ≡ true → inside.entryRefusal (state (chipOf ws) m w) ≡ entryRefusal ws m w
+  unfolding inside.entryRefusal
   entry-of-chip h = rw (stands-allowed ws h, h)
 
   -- words that stand for no record are refused at entry
@@ -44,7 +45,7 @@ module _ (ws m w : List ℕ) where
   module _ (event : ℕ) where
     refusal-of-chip : standsFor ws ≡ true → refusalOf event (state (chipOf ws) m w) ≡ stepRefusal event ws m w
     unfolding refusalOf chipOf
-    refusal-of-chip h = ap (λ (k : ℕ). k then refuse (not (isListed (eventOf event))) 3 then refuse (eqb (getD ws COUNT 0) (2 ^ 64 - 1)) 4) (entry-of-chip h)
+    refusal-of-chip h = ap (λ (k : ℕ). k then eventRefusal event (getD ws COUNT 0)) (entry-of-chip h)
 
     pub step-refused : (k : ℕ) → stepRefusal event ws m w ≡ suc k → stepCall event ws m w ≡ stepped (suc k) ws m w
     unfolding stepCall stepOf
@@ -60,7 +61,7 @@ module _ (ws m w : List ℕ) where
       where
         go : (t : Bool) → standsFor ws ≡ t → stepCall event ws m w ≡ afterStep (accepted event (state (chipOf ws) m w))
         go true h = rw (h, refusal-of-chip h ∙ r)
-        go false h = absurd (never-none (sym (refused-at-entry h (refuse (not (isListed (eventOf event))) 3 then refuse (eqb (getD ws COUNT 0) (2 ^ 64 - 1)) 4)) ∙ r))
+        go false h = absurd (never-none (sym (refused-at-entry h (eventRefusal event (getD ws COUNT 0))) ∙ r))
 
   module _ (events : List ℕ) where
     pub run-refused : (k : ℕ) → entryRefusal ws m w ≡ suc k → runCall events ws m w ≡ ran (suc k) 0 ws m w

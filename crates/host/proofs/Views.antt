@@ -9,7 +9,7 @@ use lib.Dec.{eqb}
 use lib.ListN.{length}
 use Rattle.registers.specs.declared.Chip.{Chip}
 use Rattle.registers.specs.State.{places}
-use Rattle.engine.specs.Step.{refuse, _then_}
+use Rattle.registers.specs.Refusals.{refuse, _then_}
 use Rattle.glass.specs.declared.answer.Shown.{Shown}
 use Rattle.glass.specs.declared.answer.Cell.{Cell}
 use Rattle.glass.specs.Pixel.{placeAt}

@@ -5,15 +5,16 @@ use Prim.Native.Nat.{ℕ, _-_, _^_}
 use lib.Dec.{leb, eqb}
 use lib.ListN.{length, getD}
 use Rattle.registers.specs.Record.{resetChip}
-use Rattle.registers.specs.State.{state, places}
-use Rattle.engine.specs.Event.{eventOf, isListed, numberOf}
-use Rattle.engine.specs.Step.{After, stepOf, refuse, _then_}
+use Rattle.registers.specs.Refusals.{refuse, _then_, lengthsRefusal}
+use Rattle.registers.specs.State.{state}
+use Rattle.engine.specs.Event.{numberOf}
+use Rattle.engine.specs.Step.{After, stepOf, eventRefusal}
 use Rattle.engine.specs.Run.{Outcome, runOf}
 use Rattle.host.specs.Words.{COUNT, standsFor, chipOf, wordsOf}
 
 -- words that stand for no record: 2, unless a lent memory has another length, since 1 comes first
 abbrev pub noRecordFor : ℕ → ℕ → ℕ
-noRecordFor memoryLength writersLength = refuse (not (eqb memoryLength places) || not (eqb writersLength places)) 1 then 2
+noRecordFor memoryLength writersLength = lengthsRefusal memoryLength writersLength then 2
 
 abbrev pub noRecord : List ℕ → List ℕ → ℕ
 noRecord memory writers = noRecordFor (length memory) (length writers)
@@ -71,8 +72,7 @@ runCall events ws m w = cond (standsFor ws) (afterRun (runOf events (state (chip
 
 -- at entry, of a step and of a run
 abbrev pub entryRefusal : List ℕ → List ℕ → List ℕ → ℕ
-entryRefusal ws m w = refuse (not (eqb (length m) places) || not (eqb (length w) places)) 1 then refuse (not (standsFor ws)) 2
+entryRefusal ws m w = lengthsRefusal (length m) (length w) then refuse (not (standsFor ws)) 2
 
 abbrev pub stepRefusal : ℕ → List ℕ → List ℕ → List ℕ → ℕ
-stepRefusal event ws m w =
-    entryRefusal ws m w then refuse (not (isListed (eventOf event))) 3 then refuse (eqb (getD ws COUNT 0) (2 ^ 64 - 1)) 4
+stepRefusal event ws m w = entryRefusal ws m w then eventRefusal event (getD ws COUNT 0)

@@ -5,7 +5,7 @@ use Prim.Native.Nat.{ℕ}
 use lib.Dec.{eqb}
 use lib.ListN.{length}
 use Rattle.registers.specs.State.{places}
-use Rattle.engine.specs.Step.{refuse, _then_}
+use Rattle.registers.specs.Refusals.{refuse, _then_}
 use Rattle.glass.specs.Answer.{shownNumber, cellNumber}
 use Rattle.glass.specs.Glass.{offGlass, cellOf, glassOf}
 use Rattle.host.specs.Calls.{noRecordFor}
