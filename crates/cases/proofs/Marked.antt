@@ -4,6 +4,7 @@ use mathlib.Core.Path.{refl}
 use native.Mathlib.Omega.{arith}
 use lib.Dec.{T}
 use Rattle.cases.specs.Cited.{Fill, bytes, Demand3, allowed, rowAt, commandOf, storedOf, placeOf, nextAddress, refusalOf, applied, accepted, stepOf}
+use Rattle.cases.specs.Cited.{entryRefusal, eventRefusal, isAddressed, phaseAfterAddress, phaseAfterLastRead, acknowledge, isAcknowledged, controlled, readByte, pulsed, sensed, counted, columnOf}
 use Rattle.cases.specs.Cited.{placeRefusal, glassRefusal, glassOf, numberOf, lineOf, readingFrom, readingOf, setTo, lineEvents, stream, compileOf}
 use Rattle.cases.specs.Start.{upon}
 use Rattle.cases.specs.Table.{eachPasses}
@@ -13,6 +14,7 @@ use Rattle.cases.specs.Marked.{holds, marked, putEvents}
 pub all-marked : T (eachPasses holds marked)
 unfolding holds marked
     stepOf refusalOf accepted applied allowed commandOf rowAt storedOf placeOf nextAddress
+    entryRefusal eventRefusal isAddressed phaseAfterAddress phaseAfterLastRead acknowledge isAcknowledged controlled readByte pulsed sensed counted columnOf
     placeRefusal glassRefusal glassOf
     compileOf readingOf readingFrom lineOf numberOf stream lineEvents setTo
 all-marked = tt

@@ -10,17 +10,10 @@ use Rattle.registers.proofs.Below.{and-left, and-right}
 use Rattle.text.proofs.Finding.{same-equal}
 use Rattle.chip.proofs.Plays.{plays-good, plays-run}
 use Rattle.cases.specs.Cited.{Line, State, values, ofValues, Picture, pictureOf, plain, Demand3}
-use Rattle.cases.specs.Cited.{Answer, Refused, Nothing, Acknowledged, NotAcknowledged, Read, Fit, refusalOf, stepOf}
+use Rattle.cases.specs.Cited.{Fit, isAcknowledged, refusalOf, stepOf}
 use Rattle.cases.specs.Cited.{before, played, Good, Plays, sameBytes}
 
 -- ---- the test
-
-abbrev isAcknowledged : Answer → Bool
-isAcknowledged (Refused n) = false
-isAcknowledged Nothing = false
-isAcknowledged Acknowledged = true
-isAcknowledged NotAcknowledged = false
-isAcknowledged (Read b) = false
 
 abbrev isGood : ℕ → State → Bool
 isGood e s = eqb (refusalOf e s) 0 && (not (ltb e 256) || isAcknowledged (stepOf e s .answer))
@@ -51,7 +44,7 @@ not-same xs ys t e = T-not (sameBytes xs ys) t (subst (λ (zs : List ℕ). T (sa
 good-holds : (e : ℕ) (s : State) → Good e s → T (isGood e s)
 good-holds e s g =
     and-both (eqb (refusalOf e s) 0) _ (subst (λ (n : ℕ). T (eqb n 0)) (sym (g .not-refused)) tt)
-    (either (ltb e 256) _ (λ t. subst (λ (a : Answer). T (isAcknowledged a)) (sym (g .acknowledged (ltb→lt e 256 t))) tt))
+    (either (ltb e 256) _ (λ t. subst T (sym (g .acknowledged (ltb→lt e 256 t))) tt))
   where
     either : (a b : Bool) → (T a → T b) → T (not a || b)
     either true b f = f tt
@@ -80,19 +73,12 @@ good-is : (e : ℕ) (s : State) → T (isGood e s) → Good e s
 good-is e s t =
     record {
       not-refused = eqb→eq (refusalOf e s) 0 (and-left (eqb (refusalOf e s) 0) _ t);
-      acknowledged = λ h. told (stepOf e s .answer) (said (ltb e 256) _ (lt→ltb e 256 h) (and-right (eqb (refusalOf e s) 0) _ t));
+      acknowledged = λ h. is-true _ (said (ltb e 256) _ (lt→ltb e 256 h) (and-right (eqb (refusalOf e s) 0) _ t));
     }
   where
     said : (a b : Bool) → T a → T (not a || b) → T b
     said true b t u = u
     said false b t u = absurd t
-
-    told : (a : Answer) → T (isAcknowledged a) → a ≡ Acknowledged
-    told (Refused n) t = absurd t
-    told Nothing t = absurd t
-    told Acknowledged t = refl
-    told NotAcknowledged t = absurd t
-    told (Read b) t = absurd t
 
 plays-is : (es : List ℕ) (s : State) → T (allGood es s) → Plays es (λ (t : State). Unit {0}) s
 unfolding Plays

@@ -9,6 +9,7 @@ use lib.ListN.{length, take}
 use Rattle.registers.proofs.Below.{and-left, and-right}
 use Rattle.cases.specs.Cited.{Line, Reading, faulty, lines, linesOf, bytes, sameBytes, blank, Fit, Demand3, Draws}
 use Rattle.cases.specs.Cited.{allowed, rowAt, commandOf, storedOf, placeOf, nextAddress, refusalOf, applied, accepted, stepOf}
+use Rattle.cases.specs.Cited.{entryRefusal, eventRefusal, isAddressed, phaseAfterAddress, phaseAfterLastRead, acknowledge, isAcknowledged, controlled, readByte, pulsed, sensed, counted, columnOf}
 use Rattle.cases.specs.Cited.{numberOf, lineOf, readingFrom, readingOf, filled, setTo, lineEvents, stream}
 use Rattle.cases.specs.Start.{zeros}
 use Rattle.cases.specs.Table.{EachRow, eachPasses}
@@ -91,12 +92,14 @@ other-row o t =
 all-wrong : T (eachPasses isWrong wrongOutputs)
 unfolding wrongOutputs
     stepOf refusalOf accepted applied allowed commandOf rowAt storedOf placeOf nextAddress
+    entryRefusal eventRefusal isAddressed phaseAfterAddress phaseAfterLastRead acknowledge isAcknowledged controlled readByte pulsed sensed counted columnOf
     readingOf readingFrom lineOf numberOf setTo filled
 all-wrong = tt
 
 all-other : T (eachPasses isOther otherOutputs)
 unfolding otherOutputs
     stepOf refusalOf accepted applied allowed commandOf rowAt storedOf placeOf nextAddress
+    entryRefusal eventRefusal isAddressed phaseAfterAddress phaseAfterLastRead acknowledge isAcknowledged controlled readByte pulsed sensed counted columnOf
     readingOf readingFrom lineOf numberOf setTo filled stream lineEvents
 all-other = tt
 

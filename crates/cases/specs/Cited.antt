@@ -29,10 +29,12 @@ pub use Rattle.glass.specs.Pixel.{Pixel, dark, undriven, uses, placeAt, pixelOf
 -- these are opened where a case is computed
 unfoldable pub use Rattle.registers.specs.Record.{allowed}
 unfoldable pub use Rattle.registers.specs.Table.{rowAt}
-unfoldable pub use Rattle.engine.specs.Command.{commandOf}
-unfoldable pub use Rattle.engine.specs.Display.{storedOf, placeOf, nextAddress}
-unfoldable pub use Rattle.engine.specs.Step.{refusalOf, applied, accepted, stepOf}
-unfoldable pub use Rattle.engine.specs.Run.{runOf}
+unfoldable pub use Rattle.commands.specs.Command.{commandOf}
+unfoldable pub use Rattle.display.specs.Display.{storedOf, columnOf, placeOf, nextAddress}
+unfoldable pub use Rattle.engine.specs.Event.{isAcknowledged}
+unfoldable pub use Rattle.engine.specs.Phases.{isAddressed, phaseAfterAddress, phaseAfterLastRead}
+unfoldable pub use Rattle.engine.specs.Step.{entryRefusal, eventRefusal, refusalOf, acknowledge, controlled, readByte, pulsed, sensed, counted, applied, accepted, stepOf}
+unfoldable pub use Rattle.engine.specs.Run.{runFrom, runOf}
 unfoldable pub use Rattle.chip.specs.Plays.{Plays}
 unfoldable pub use Rattle.text.specs.Decimal.{numberOf}
 unfoldable pub use Rattle.lists.specs.Line.{lineOf}
