@@ -8,11 +8,13 @@ use Rattle.registers.specs.State.{State, state}
 use Rattle.engine.specs.declared.event.Event.{Event}
 use Rattle.engine.specs.declared.event.Event.the-variants.{Byte, Start, Stop, ReadAcknowledged, ReadNotAcknowledged, Reset, Sensor, Unlisted}
 use Rattle.engine.specs.Event.{eventOf}
-use Rattle.engine.specs.Step.{acknowledge, isAddressed, onByte, applied, accepted, counted}
+use Rattle.engine.specs.Phases.{isAddressed}
+use Rattle.engine.specs.Step.{acknowledge, onByte, applied, accepted, counted}
 use Rattle.capture.specs.declared.Line.the-variants.{Empty}
 use Rattle.capture.specs.Feeding.{afterAnswer}
 
 acknowledged-or-not : (t : Bool) → afterAnswer (acknowledge t) ≡ Empty
+unfolding acknowledge
 acknowledged-or-not true = refl
 acknowledged-or-not false = refl
 

@@ -14,8 +14,8 @@ use Rattle.text.specs.Text.{split, join}
 use Rattle.text.proofs.Joining.{split-append, Free, join-split}
 use Rattle.text.proofs.Printing.{Printed, printed}
 use Rattle.text.proofs.Splitting.{split-some}
-use Rattle.engine.specs.Run.{unlessStopped}
-use Rattle.chip.specs.Promised.{outcome, runFrom, refusalOf, accepted}
+use Rattle.engine.specs.Run.{unlessStopped, runFrom}
+use Rattle.chip.specs.Promised.{outcome, refusalOf, accepted}
 use Rattle.capture.specs.Reading.{newline, alsoEvent, saidBy, pinsOf, firstLine, eventLines}
 use Rattle.capture.specs.Replay.{Replay, refusedAt, replayed, started, outcomeOf, playFrom, replayOf}
 use Rattle.capture.specs.Where.{Small, Stops, unended, no-number, refused-event, Replayed, NoFirstLine, StoppedAfter}
@@ -34,15 +34,18 @@ data Course (n : ℕ) (s : State) (text : List ℕ) (r : Replay) : Type 0 where
 
 -- the first of the lines stops it
 stops-here : (n : ℕ) (s : State) (text : List ℕ) (r : Replay) → Stops text s → r ≡ refusedAt (n + 2) s → Course n s text r
+unfolding runFrom
 stops-here n s text r h e = stops [] text s tt refl (rw add-zero) h (e ∙ rw add-zero)
 
 -- or is an event that is done
 module _ (e : ℕ) (n : ℕ) (s : State) (small : e < 1000) (h : refusalOf e s ≡ 0) where
   one-more : (es : List ℕ) (end : State) → runFrom (n + 1) es (accepted e s .state) ≡ outcome (n + 1 + length es) 0 end → runFrom n (e ∷ es) s ≡ outcome (n + length (e ∷ es)) 0 end
+  unfolding runFrom
   one-more es end q = let more : n + 1 + length es ≡ n + length (e ∷ es) = omega arith in rw h (q ∙ rw more)
 
   goes-on :
       (text : List ℕ) (r : Replay) → Course (n + 1) (accepted e s .state) text r → Course n s (decimal e ++ newline ∷ text) r
+  unfolding runFrom
   goes-on text r (through es end sm t q er) = through (e ∷ es) end (small, sm) (rw t) (one-more es end q) er
   goes-on text r (stops es rest end sm t q st er) =
       let more : n + 1 + length es ≡ n + length (e ∷ es) = omega arith in
@@ -52,6 +55,7 @@ no-text : (x : ℕ) (p : List ℕ) → x ∷ p ≡ [] → ⊥
 no-text x p e = let z : _≡_ {A = ℕ} 0 1 = cc e in omega arith
 
 course : (p : List ℕ) (ps : List (List ℕ)) → Free newline (p ∷ ps) → (n : ℕ) (s : State) → Course n s (join newline (p ∷ ps)) (playFrom n (saidBy (p ∷ ps)) s)
+unfolding runFrom
 course [] [] f n s = through [] s tt refl (rw add-zero) refl
 course (x ∷ p) [] f n s = stops-here n s (x ∷ p) _ (unended (f .0) (λ e. no-text x p e)) refl
 course p (q ∷ ps) f n s = go (numberOf p) refl (λ k t. course q ps (f .1) k t)

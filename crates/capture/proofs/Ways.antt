@@ -10,9 +10,9 @@ use Rattle.registers.specs.State.{State, places}
 use Rattle.text.specs.declared.Number as numbers
 use Rattle.text.specs.Text.{split}
 use Rattle.text.proofs.Joining.{split-join}
-use Rattle.engine.specs.Run.{unlessStopped, runOf}
+use Rattle.engine.specs.Run.{unlessStopped, runOf, runFrom}
 use Rattle.engine.proofs.Refusals.{fit-entry}
-use Rattle.chip.specs.Promised.{Fit, Outcome, outcome, runFrom, refusalOf, accepted}
+use Rattle.chip.specs.Promised.{Fit, Outcome, outcome, refusalOf, accepted}
 use Rattle.chip.specs.Runs.{continued}
 use Rattle.chip.proofs.Runs.{from-append}
 use Rattle.capture.specs.Reading.{newline, Said, alsoEvent, saidBy, captureText}
@@ -37,6 +37,7 @@ behind es l s end done =
     ap (λ (o : Outcome). outcomeOf o (l .whole)) (from-append 0 es (l .events) s ∙ ap (λ (o : Outcome). continued o (l .events)) done)
 
 stop-said : (rest : List ℕ) (s : State) → Stops rest s → (n : ℕ) → playFrom n (saidBy (split newline rest)) s ≡ refusedAt (n + 2) s
+unfolding runFrom
 stop-said rest s (unended f some) n = rw (split-join newline rest [] (f, tt)) (go rest some)
   where
     go : (p : List ℕ) → (p ≡ [] → ⊥) → playFrom n (saidBy (p ∷ [])) s ≡ refusedAt (n + 2) s
@@ -54,6 +55,7 @@ stop-said rest s (refused-event e more small r t) n = rw (t, said-event e more s
     go (suc k) none = refl
 
 pub so-stopped : (n : ℕ) (text m w : List ℕ) (end : State) → StoppedAfter n text m w end → replayOf text m w ≡ refusedAt (n + 2) end
+unfolding runFrom
 so-stopped n text m w end r =
     rw (r .written, ← r .as-many)
     (replay-written (r .pins) (r .events) (r .rest) m w (r .pins-allowed) (r .small)
@@ -67,7 +69,7 @@ unfolding allowed
 started-fit pins m w two lm lw = record { memory-long = lm; writers-long = lw; is-allowed = simp (le-leb pins 3 two) }
 
 pub run-entered : (es : List ℕ) (s : State) → Fit s → runOf es s ≡ runFrom 0 es s
-unfolding runOf
+unfolding runOf runFrom
 run-entered es s fit = rw (fit-entry s fit)
 
 -- the chip's run over the events of a capture that is replayed

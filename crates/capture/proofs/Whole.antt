@@ -13,8 +13,8 @@ use Rattle.text.specs.declared.Number.the-variants.{Value, Malformed}
 use Rattle.text.specs.Decimal.{numberOf}
 use Rattle.text.specs.Text.{split, onFirst}
 use Rattle.text.proofs.Splitting.{split-some}
-use Rattle.engine.specs.Run.{unlessStopped}
-use Rattle.chip.specs.Promised.{After, refusalOf, accepted, runFrom}
+use Rattle.engine.specs.Run.{unlessStopped, runFrom}
+use Rattle.chip.specs.Promised.{After, refusalOf, accepted}
 use Rattle.chip.proofs.LastWriter.{counts-accepted}
 use Rattle.chip.proofs.Laws as chip
 use Rattle.chip.proofs.Refusals.{accepted-step}
@@ -67,6 +67,7 @@ onto p (q ∷ qs) = (p ++ q) ∷ qs
 -- a newline behind a line, whatever the lines behind it come to
 module _ (bs : List ℕ) (rest : Said) (h : (s : State) → resultOf (feedOf bs (fedAs Empty s)) ≡ playFrom (s .chip .count) rest s) (s : State) where
   event-ended : (e : ℕ) → resultOf (feedOf bs (playedOn e s)) ≡ playFrom (s .chip .count) (alsoEvent (Value e) rest) s
+  unfolding runFrom
   event-ended e = go (refusalOf e s) refl
     where
       go :
@@ -82,7 +83,7 @@ module _ (bs : List ℕ) (rest : Said) (h : (s : State) → resultOf (feedOf bs 
           ap (λ (a : After). resultOf (feedOf bs (fedAs (afterAnswer (a .answer)) (a .state)))) (chip.refused e s k q) ∙ bad-line bs s
 
   line-ended : (p : List ℕ) → resultOf (feedOf bs (endedLine (shown p) s)) ≡ playFrom (s .chip .count) (alsoEvent (numberOf p) rest) s
-  unfolding endedLine numberOf
+  unfolding endedLine numberOf runFrom
   line-ended [] = bad-line bs s
   line-ended (x ∷ p) = go (numberOf (x ∷ p))
     where
@@ -92,7 +93,7 @@ module _ (bs : List ℕ) (rest : Said) (h : (s : State) → resultOf (feedOf bs 
 
 -- no newline follows
 line-left : (p : List ℕ) (s : State) → resultOf (fedAs (shown p) s) ≡ playFrom (s .chip .count) (saidBy ((p ++ []) ∷ [])) s
-unfolding meaning
+unfolding meaning runFrom
 line-left [] s = refl
 line-left (x ∷ p) s = go (numberOf (x ∷ p))
   where
