@@ -1,4 +1,4 @@
 pub mod Allowed
 pub mod Events
 pub mod Refusals
-pub mod Ways
+pub mod CodeWays

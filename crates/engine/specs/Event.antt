@@ -19,6 +19,16 @@ eventOf n =
     (cond (ltb n 768) (Sensor (n - 512))
     Unlisted)))))))
 
+abbrev pub isByte : Event → Bool
+isByte (Byte b) = true
+isByte Start = false
+isByte Stop = false
+isByte ReadAcknowledged = false
+isByte ReadNotAcknowledged = false
+isByte Reset = false
+isByte (Sensor s) = false
+isByte Unlisted = false
+
 -- the number of each answer: a refusal's is that of document 01's table, the others are the host's
 abbrev pub numberOf : Answer → ℕ
 numberOf (Refused n) = n

@@ -1,7 +1,11 @@
 // What an event does to the chip and the lent memories, where it is not refused.
 ghost use mathlib.Core.Path.{_≡_};
+ghost use mathlib.Core.Bool.{false};
+ghost use mathlib.Core.List.{List};
+ghost use Prim.Native.Nat.{ℕ};
 ghost use Rattle.registers.specs.State.{state};
 ghost use Rattle.engine.specs.declared.answer.Answer.the-variants.{Nothing, Read};
+ghost use Rattle.engine.specs.Event.{isByte};
 ghost use Rattle.engine.specs.Step.{refusalOf, after, applied, accepted};
 use crate::answer::Answer;
 use crate::event::Event;
@@ -29,12 +33,14 @@ fn with_byte_read(byte: u8, chip: Chip) -> Stepped
     }
 }
 
-// What an event does. The count is up to date, and `number` is the event's own.
-fn apply(event: Event, number: u64, chip: Chip, memory: &mut [u8], writers: &mut [u64]) -> Stepped
-    ensures { λ r. ⌜ after (r .answer) (r .chip) (now (memory .exit)) (now (writers .exit)) ≡ applied event number (state chip (now (memory .entry)) (now (writers .entry))) ⌝ }
+// An event that is no byte touches no memory.
+fn on_other_event(event: Event, chip: Chip) -> Stepped
+    requires { ⌜ isByte event ≡ false ⌝ }
+    ensures { λ r. ⌜ ((number : ℕ) (m w : List ℕ) → after (r .answer) (r .chip) m w ≡ applied event number (state chip m w)) ⌝ }
 {
     match event {
-        Event::Byte(byte) => crate::byte::on_byte(byte, number, chip, memory, writers),
+        // a byte does not come here
+        Event::Byte(_) => without_answer(chip),
         Event::Start => without_answer(chip.in_phase(Phase::AddressAwaited)),
         Event::Stop => without_answer(chip.in_phase(Phase::Idle)),
         Event::ReadAcknowledged => with_byte_read(crate::plain::read_byte(chip), chip),
@@ -55,10 +61,14 @@ fn apply(event: Event, number: u64, chip: Chip, memory: &mut [u8], writers: &mut
 // An event that is not refused: it adds 1 to the count, and that is its number.
 pub fn accept(event: u16, chip: Chip, memory: &mut [u8], writers: &mut [u64]) -> Stepped
     requires { ⌜ refusalOf event (state chip (now memory) (now writers)) ≡ 0 ⌝ }
-    ensures { λ r. ⌜ after (r .answer) (r .chip) (now (memory .exit)) (now (writers .exit)) ≡ accepted event (state chip (now (memory .entry)) (now (writers .entry))) ⌝ }
+    ensures { λ r. ⌜ after (r .answer) (r .chip) (now (memory .exit)) (now (writers .exit))
+        ≡ accepted event (state chip (now (memory .entry)) (now (writers .entry))) ⌝ }
 {
     let number = chip.count + 1;
     let mut counted = chip;
     counted.count = number;
-    apply(Event::of(event), number, counted, memory, writers)
+    if event < 256 {
+        return crate::byte::on_byte(event as u8, number, counted, memory, writers);
+    }
+    on_other_event(Event::of(event), counted)
 }

@@ -192,7 +192,8 @@ fn content(
 
 // Content is called from one place alone, so that the chip's record is not copied for it.
 pub fn on_byte(byte: u8, number: u64, chip: Chip, memory: &mut [u8], writers: &mut [u64]) -> Stepped
-    ensures { λ r. ⌜ after (r .answer) (r .chip) (now (memory .exit)) (now (writers .exit)) ≡ onByte (chip .phase) byte number (state chip (now (memory .entry)) (now (writers .entry))) ⌝ }
+    ensures { λ r. ⌜ after (r .answer) (r .chip) (now (memory .exit)) (now (writers .exit))
+        ≡ onByte (chip .phase) byte number (state chip (now (memory .entry)) (now (writers .entry))) ⌝ }
 {
     let phase = chip.phase;
     if awaits_content(phase) {

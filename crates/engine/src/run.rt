@@ -13,7 +13,8 @@ pub struct Ran {
 
 // Events in order up to the first refused one. 1 and 2 are tested at entry, even with no events.
 pub fn run(chip: Chip, memory: &mut [u8], writers: &mut [u64], events: &[u16]) -> Ran
-    ensures { λ r. ⌜ outcome (r .done) (r .refusal) (state (r .chip) (now (memory .exit)) (now (writers .exit))) ≡ runOf (now (events .entry)) (state chip (now (memory .entry)) (now (writers .entry))) ⌝ }
+    ensures { λ r. ⌜ outcome (r .done) (r .refusal) (state (r .chip) (now (memory .exit)) (now (writers .exit)))
+        ≡ runOf (now (events .entry)) (state chip (now (memory .entry)) (now (writers .entry))) ⌝ }
 {
     let performed = crate::sequence::perform(chip, memory, writers, events);
     let chip = performed.chip;

@@ -15,7 +15,8 @@ pub struct Performed {
 
 // Events in order up to the first refused one. 1 and 2 are tested at entry, even with no events.
 pub fn perform(chip: Chip, memory: &mut [u8], writers: &mut [u64], events: &[u16]) -> Performed
-    ensures { λ r. ⌜ outcome (r .done) (r .refusal) (state (r .chip) (now (memory .exit)) (now (writers .exit))) ≡ runOf (now (events .entry)) (state chip (now (memory .entry)) (now (writers .entry))) ⌝ }
+    ensures { λ r. ⌜ outcome (r .done) (r .refusal) (state (r .chip) (now (memory .exit)) (now (writers .exit)))
+        ≡ runOf (now (events .entry)) (state chip (now (memory .entry)) (now (writers .entry))) ⌝ }
     ensures { λ r. ⌜ r .answer ≡ lastAnswer (now (events .entry)) (state chip (now (memory .entry)) (now (writers .entry))) ⌝ }
 {
     let entry = crate::refusal::at_entry(chip, memory.len(), writers.len());

@@ -13,7 +13,8 @@ pub struct Stepped {
 
 // One event: refused with the same record and memories, or accepted.
 pub fn step(event: u16, chip: Chip, memory: &mut [u8], writers: &mut [u64]) -> Stepped
-    ensures { λ r. ⌜ after (r .answer) (r .chip) (now (memory .exit)) (now (writers .exit)) ≡ stepOf event (state chip (now (memory .entry)) (now (writers .entry))) ⌝ }
+    ensures { λ r. ⌜ after (r .answer) (r .chip) (now (memory .exit)) (now (writers .exit))
+        ≡ stepOf event (state chip (now (memory .entry)) (now (writers .entry))) ⌝ }
 {
     let events = [event];
     let performed = crate::sequence::perform(chip, memory, writers, &events);

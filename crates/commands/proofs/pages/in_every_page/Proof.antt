@@ -1,5 +1,5 @@
 use mathlib.Core.Path.{_∙_}
-use Rattle.commands.proofs.Ways.{by-row, page-zero}
+use Rattle.commands.proofs.CodeWays.{by-row, page-zero}
 use borrow.Author.Needs.{needs}
 use Rattle.commands.proofs.pages.in_every_page.Statement.{statement}
 use Rattle.commands.proofs.pages.in_every_page.Tie as tie

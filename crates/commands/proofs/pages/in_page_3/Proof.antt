@@ -1,4 +1,4 @@
-use Rattle.commands.proofs.Ways.{by-row}
+use Rattle.commands.proofs.CodeWays.{by-row}
 use borrow.Author.Needs.{needs}
 use Rattle.commands.proofs.pages.in_page_3.Statement.{statement}
 use Rattle.commands.proofs.pages.in_page_3.Tie as tie

@@ -1,5 +1,5 @@
 use native.Mathlib.Omega.{arith}
-use Rattle.commands.proofs.Ways.{by-row, by-none}
+use Rattle.commands.proofs.CodeWays.{by-row, by-none}
 use borrow.Author.Needs.{needs}
 use Rattle.commands.proofs.pages.in_page_4.Statement.{statement}
 use Rattle.commands.proofs.pages.in_page_4.Tie as tie

@@ -1,4 +1,4 @@
-use Rattle.engine.proofs.Ways.{display-content, command-content}
+use Rattle.engine.proofs.CodeWays.{display-content, command-content}
 use borrow.Author.Needs.{needs}
 use Rattle.engine.proofs.byte.content.Statement.{statement}
 use Rattle.engine.proofs.byte.content.Tie as tie

@@ -1,4 +1,4 @@
-use Rattle.engine.proofs.Ways.{content-taken}
+use Rattle.engine.proofs.CodeWays.{content-taken}
 use mathlib.Core.Path.{sym, _∙_}
 use borrow.Author.Needs.{needs}
 use Rattle.engine.proofs.byte.on_byte.Statement.{statement}

@@ -1,4 +1,4 @@
-use Rattle.engine.proofs.Ways.{in-told-phase, no-content}
+use Rattle.engine.proofs.CodeWays.{in-told-phase, no-content}
 use mathlib.Core.Path.{refl}
 use borrow.Author.Needs.{needs}
 use Rattle.engine.proofs.byte.on_plain_byte.Statement.{statement}

@@ -1,5 +1,5 @@
-use Rattle.engine.proofs.Ways.{run-stops, run-goes-on, run-ends, run-refused, run-entered}
-use Rattle.engine.proofs.Ways.{answer-stops, answer-goes-on, answer-ends, answer-refused, answer-entered}
+use Rattle.engine.proofs.CodeWays.{run-stops, run-goes-on, run-ends, run-refused, run-entered}
+use Rattle.engine.proofs.CodeWays.{answer-stops, answer-goes-on, answer-ends, answer-refused, answer-entered}
 use Rattle.engine.specs.Run.{runFrom, answerFrom}
 use Rattle.engine.specs.Step.{refusalOf, entryRefusal}
 use Rattle.registers.specs.State.{state}

@@ -1,4 +1,4 @@
-use Rattle.engine.proofs.Ways.{step-of-run}
+use Rattle.engine.proofs.CodeWays.{step-of-run}
 use borrow.Author.Needs.{needs}
 use Rattle.engine.proofs.step.step.Statement.{statement}
 use Rattle.engine.proofs.step.step.Tie as tie

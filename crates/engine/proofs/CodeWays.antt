@@ -18,11 +18,12 @@ use Rattle.display.specs.Display.{storedOf, placeOf, nextAddress}
 use Rattle.engine.specs.declared.answer.Answer.{Answer}
 use Rattle.engine.specs.declared.answer.Answer.the-variants.{Refused, Nothing, Acknowledged}
 use Rattle.engine.specs.declared.event.Event.{Event}
-use Rattle.engine.specs.Event.{eventOf}
+use Rattle.engine.specs.Event.{eventOf, isByte}
 use Rattle.engine.specs.Phases.{awaitsContent, contentRs, phaseAfterContent}
 use Rattle.engine.specs.Run.{Outcome, outcome, runFrom, runOf, unlessStopped, answerUnless, answerFrom, lastAnswer}
 use Rattle.engine.specs.Step.{After, after, nothingStored, contentOf, onByte, applied, accepted, counted}
 use Rattle.engine.specs.Step.{entryRefusal, eventRefusal, refusalOf, unlessRefused, stepOf}
+use Rattle.engine.proofs.Events.{byte-event}
 
 -- ---- a byte
 
@@ -70,22 +71,29 @@ no-content told phase a a′ e t f = cc
 
 -- ---- an event
 
--- the event is told: what is right for it is right
-pub in-told-event : (told event : Event) (number : ℕ) (s : State) (a : After) → event ≡ told → a ≡ applied told number s → a ≡ applied event number s
-in-told-event told event number s a e h = subst (λ (v : Event). a ≡ applied v number s) (sym e) h
-
--- the same for an event that touches no memory, its answer and the chip after it being told
-pub in-told-plain-event :
-    (told event : Event) (number : ℕ) (s : State) (a a′ : Answer) (c c′ : Chip) → event ≡ told → a ≡ a′ → c ≡ c′
+-- the event is told, and what was made of it: what is right for it is right
+pub in-told-event :
+    (told event : Event) (number : ℕ) (s : State) (a a′ : Answer) (c c₁ c′ : Chip) → event ≡ told → (a ≡ a′) × (c ≡ c₁) → c₁ ≡ c′
     → nothingStored a′ c′ s ≡ applied told number s → nothingStored a c s ≡ applied event number s
-in-told-plain-event told event number s a a′ c c′ e ea ec h =
-    in-told-event told event number s _ e (ap₂ (λ (x : Answer) (y : Chip). nothingStored x y s) ea ec ∙ h)
+in-told-event told event number s a a′ c c₁ c′ e made ec h =
+    subst (λ (v : Event). nothingStored a c s ≡ applied v number s) (sym e)
+    (ap₂ (λ (x : Answer) (y : Chip). nothingStored x y s) (made .0) (made .1 ∙ ec) ∙ h)
 
-pub accept-of :
-    (e : ℕ) (s : State) (event : Event) (a : After) → event ≡ eventOf e
-    → a ≡ applied event (s .chip .count + 1) (state (counted (s .chip)) (s .memory) (s .writers)) → a ≡ accepted e s
-unfolding accepted
-accept-of e s event a told h = h ∙ ap (λ (v : Event). applied v (s .chip .count + 1) (state (counted (s .chip)) (s .memory) (s .writers))) told
+-- the event is told, and is a byte: that does not come here
+pub no-byte-told : (told event : Event) (a a′ : After) → event ≡ told → isByte told ≡ true → isByte event ≡ false → a ≡ a′
+no-byte-told told event a a′ e t f = cc
+
+module _ (e : ℕ) (s : State) (a : After) where
+  pub accept-byte :
+      e < 256 → a ≡ onByte (s .chip .phase) e (s .chip .count + 1) (state (counted (s .chip)) (s .memory) (s .writers)) → a ≡ accepted e s
+  unfolding accepted applied counted
+  accept-byte h q = q ∙ ap (λ (v : Event). applied v (s .chip .count + 1) (state (counted (s .chip)) (s .memory) (s .writers))) (sym (byte-event e h))
+
+  pub accept-other :
+      (event : Event) → event ≡ eventOf e
+      → a ≡ applied event (s .chip .count + 1) (state (counted (s .chip)) (s .memory) (s .writers)) → a ≡ accepted e s
+  unfolding accepted
+  accept-other event told h = h ∙ ap (λ (v : Event). applied v (s .chip .count + 1) (state (counted (s .chip)) (s .memory) (s .writers))) told
 
 -- ---- a run
 
