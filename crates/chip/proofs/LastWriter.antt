@@ -1,15 +1,13 @@
 -- Demand 2 over whole runs: each place of the memories names the last display byte that landed there.
-use mathlib.Core.Bool.{Bool, true, false, cond}
+use mathlib.Core.Bool.{Bool, true, false}
 use mathlib.Core.List.{List, [], _∷_}
 use mathlib.Core.Logic.{_⊎_, inl, inr}
 use mathlib.Core.Path.{_≡_, refl, sym, ap, _∙_, subst}
-use Prim.Native.Nat.{ℕ, zero, suc, _+_, _-_, _<_, _≤_, suc-le-suc}
+use Prim.Native.Nat.{ℕ, zero, suc, _+_, _<_, suc-le-suc}
 use native.Mathlib.Decide.{decLt, ℕ-discrete}
 use native.Mathlib.Nat.{le-of-suc-le-suc, not-suc-le-zero}
 use native.Mathlib.Numerals.{one-add}
 use native.Mathlib.Omega.{arith}
-use borrow.Author.Tests.{le-ltb}
-use lib.Dec.{eqb, ltb}
 use lib.ListN.{getD, set}
 use lib.Seq.{getD-set-same, getD-set-other}
 use Rattle.registers.specs.declared.Phase.{Phase}
@@ -18,14 +16,14 @@ use Rattle.registers.specs.State.{State, state}
 use Rattle.registers.proofs.Below.{true-false}
 use Rattle.engine.specs.declared.event.Event.{Event}
 use Rattle.engine.specs.declared.event.Event.the-variants.{Byte, Start, Stop, ReadAcknowledged, ReadNotAcknowledged, Reset, Sensor, Unlisted}
-use Rattle.engine.specs.Event.{eventOf}
+use Rattle.engine.specs.Event.{eventOf, isByte, isAcknowledged}
 use Rattle.engine.specs.Run
 use Rattle.engine.specs.Run.{unlessStopped, runFrom}
 use Rattle.engine.specs.Step.{controlled, pulsed, sensed, onByte, applied, accepted, counted}
 use Rattle.engine.proofs.Allowed.{accepted-fit, fit-place}
-use Rattle.engine.proofs.Events.{byte-event}
+use Rattle.engine.proofs.Events.{byte-event, other-event}
 use Rattle.chip.specs.Effects.{displayed}
-use Rattle.chip.specs.LastWriter.{Lands, before, Untouched, Written}
+use Rattle.chip.specs.LastWriter.{Lands, before, Untouched, Written, PlaceAfter}
 use Rattle.chip.specs.Phases.{awaitsData}
 use Rattle.chip.specs.Promised.{After, Fit, Outcome, refusalOf, stepOf, placeOf, storedOf}
 use Rattle.chip.proofs.Events.{display-step}
@@ -101,18 +99,16 @@ pub counts-accepted : (e : ℕ) (s : State) → accepted e s .state .chip .count
 unfolding accepted counted
 counts-accepted e s = counts-event (eventOf e) (s .chip .count + 1) (state (counted (s .chip)) (s .memory) (s .writers))
 
--- the events that are no bytes, by the tests that tell them
-quiet-kinds :
-    (a b c d f g h : Bool) (x : ℕ) (p : Phase)
-    → Quiet (cond a Start (cond b Stop (cond c ReadAcknowledged (cond d ReadNotAcknowledged (cond f Reset (cond g Unlisted (cond h (Sensor x) Unlisted))))))) p
-quiet-kinds true b c d f g h x p = tt
-quiet-kinds false true c d f g h x p = tt
-quiet-kinds false false true d f g h x p = tt
-quiet-kinds false false false true f g h x p = tt
-quiet-kinds false false false false true g h x p = tt
-quiet-kinds false false false false false true h x p = tt
-quiet-kinds false false false false false false true x p = tt
-quiet-kinds false false false false false false false x p = tt
+-- an event that is no byte stores nothing
+other-quiet : (v : Event) (p : Phase) → isByte v ≡ false → Quiet v p
+other-quiet (Byte b) p h = absurd (true-false h)
+other-quiet Start p h = tt
+other-quiet Stop p h = tt
+other-quiet ReadAcknowledged p h = tt
+other-quiet ReadNotAcknowledged p h = tt
+other-quiet Reset p h = tt
+other-quiet (Sensor v) p h = tt
+other-quiet Unlisted p h = tt
 
 -- what an accepted event does to place k: it lands there, or the place is as it was
 record Landed (e : ℕ) (s end : State) (k : ℕ) : Type 0 where
@@ -137,12 +133,8 @@ module _ (e : ℕ) (s : State) (k : ℕ) (h : refusalOf e s ≡ 0) (fit : Fit s)
         writer = ap (λ (a : After). getD (a .state .writers) k 0) step ∙ ap (λ (l : List ℕ). getD l k 0) (same .1);
       }
 
-  no-byte-quiet : 256 ≤ e → Quiet (eventOf e) (s .chip .phase)
-  no-byte-quiet b =
-      rw (le-ltb e 256 b)
-      (quiet-kinds (eqb e 256) (eqb e 257) (eqb e 258) (eqb e 259) (eqb e 260) (ltb e 512) (ltb e 768) (e - 512) (s .chip .phase))
-
   data-lands : e < 256 → awaitsData (s .chip .phase) ≡ true → Landed e s (stepOf e s .state) k ⊎ Passed e s (stepOf e s .state) k
+  unfolding isAcknowledged
   data-lands b t = go (ℕ-discrete (placeOf (s .chip .registers)) k)
     where
       step : stepOf e s ≡ displayed e s
@@ -161,7 +153,7 @@ module _ (e : ℕ) (s : State) (k : ℕ) (h : refusalOf e s ≡ 0) (fit : Fit s)
       go (yes q) =
           inl
           (record {
-            lands = record { is-byte = b; is-data = t; acknowledged = ap (λ (a : After). a .answer) step; at-place = q };
+            lands = record { is-byte = b; is-data = t; acknowledged = ap (λ (a : After). isAcknowledged (a .answer)) step; at-place = q };
             byte = subst (λ (x : ℕ). getD (stepOf e s .state .memory) x 0 ≡ storedOf (s .chip .registers) e) q
                 (at-memory _ ∙ getD-set-same (s .memory) _ _ 0 (subst (λ (n : ℕ). placeOf (s .chip .registers) < n) (sym (fit .memory-long)) within));
             writer = subst (λ (x : ℕ). getD (stepOf e s .state .writers) x 0 ≡ s .chip .count + 1) q
@@ -179,7 +171,7 @@ module _ (e : ℕ) (s : State) (k : ℕ) (h : refusalOf e s ≡ 0) (fit : Fit s)
   effect = go (decLt e 256) (awaitsData (s .chip .phase)) refl
     where
       go : Dec (e < 256) → (t : Bool) → awaitsData (s .chip .phase) ≡ t → Landed e s (stepOf e s .state) k ⊎ Passed e s (stepOf e s .state) k
-      go (no n) t et = inr (quiet-passes (λ l. n (l .is-byte)) (no-byte-quiet (omega arith)))
+      go (no n) t et = inr (quiet-passes (λ l. n (l .is-byte)) (other-quiet (eventOf e) (s .chip .phase) (other-event e (omega arith))))
       go (yes b) true et = data-lands b et
       go (yes b) false et =
           inr (quiet-passes (λ l. true-false (sym (l .is-data) ∙ et)) (subst (λ (v : Event). Quiet v (s .chip .phase)) (sym (byte-event e b)) et))
@@ -237,26 +229,22 @@ module _ (e : ℕ) (es : List ℕ) (s end : State) (n k : ℕ) (up : stepOf e s 
 pub idle : (es : List ℕ) (s : State) (k : ℕ) → Untouched es 0 s s k
 idle es s k = record { none = λ i b l. not-suc-le-zero b; byte = refl; writer = refl }
 
--- what is claimed of the n events done from s to end
-abbrev pub Claim : List ℕ → ℕ → State → State → ℕ → Type 0
-Claim es n s end k = Untouched es n s end k ⊎ Written es n s end k
-
 -- the events that are done, from a state that 1 and 2 let pass
-pub from-written : (es : List ℕ) (s : State) (k : ℕ) → Fit s → Claim es (runFrom 0 es s .done) s (runFrom 0 es s .state) k
+pub from-written : (es : List ℕ) (s : State) (k : ℕ) → Fit s → PlaceAfter es (runFrom 0 es s .done) s (runFrom 0 es s .state) k
 unfolding runFrom
 from-written [] s k fit = inl (idle [] s k)
 from-written (e ∷ es) s k fit = go (refusalOf e s) refl (from-written es (accepted e s .state) k (accepted-fit e s fit))
   where
     go :
         (x : ℕ) → refusalOf e s ≡ x
-        → Claim es (runFrom 0 es (accepted e s .state) .done) (accepted e s .state) (runFrom 0 es (accepted e s .state) .state) k
-        → Claim (e ∷ es) (unlessStopped x 0 s (runFrom 1 es (accepted e s .state)) .done) s (unlessStopped x 0 s (runFrom 1 es (accepted e s .state)) .state) k
+        → PlaceAfter es (runFrom 0 es (accepted e s .state) .done) (accepted e s .state) (runFrom 0 es (accepted e s .state) .state) k
+        → PlaceAfter (e ∷ es) (unlessStopped x 0 s (runFrom 1 es (accepted e s .state)) .done) s (unlessStopped x 0 s (runFrom 1 es (accepted e s .state)) .state) k
     go (suc x) q rest = inl (idle (e ∷ es) s k)
     go zero q rest =
         let o = runFrom 0 es (accepted e s .state) in
         let step = accepted-step e s q in
         let up : stepOf e s .state .chip .count ≡ s .chip .count + 1 = ap (λ (a : After). a .state .chip .count) step ∙ counts-accepted e s in
-        let then : Claim es (o .done) (stepOf e s .state) (o .state) k = subst (λ (a : After). Claim es (o .done) (a .state) (o .state) k) (sym step) rest in
-        let both : Claim (e ∷ es) (suc (o .done)) s (o .state) k = joined e es s (o .state) (o .done) k up (effect e s k q fit) then in
-        subst (λ (r : Outcome). Claim (e ∷ es) (r .done) s (r .state) k) (sym (run-shift 1 es (accepted e s .state)))
-        (subst (λ (m : ℕ). Claim (e ∷ es) m s (o .state) k) (sym (one-add (o .done))) both)
+        let then : PlaceAfter es (o .done) (stepOf e s .state) (o .state) k = subst (λ (a : After). PlaceAfter es (o .done) (a .state) (o .state) k) (sym step) rest in
+        let both : PlaceAfter (e ∷ es) (suc (o .done)) s (o .state) k = joined e es s (o .state) (o .done) k up (effect e s k q fit) then in
+        subst (λ (r : Outcome). PlaceAfter (e ∷ es) (r .done) s (r .state) k) (sym (run-shift 1 es (accepted e s .state)))
+        (subst (λ (m : ℕ). PlaceAfter (e ∷ es) m s (o .state) k) (sym (one-add (o .done))) both)

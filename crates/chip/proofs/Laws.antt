@@ -15,15 +15,15 @@ use Rattle.engine.proofs.Allowed.{accepted-fit}
 use Rattle.engine.proofs.Events.{sensor-event}
 use Rattle.engine.proofs.Refusals.{entry-fit}
 use Rattle.chip.specs.Effects.{displayed}
-use Rattle.chip.specs.LastWriter.{LastWriter}
+use Rattle.chip.specs.LastWriter.{PlaceAfter, LastWriter}
 use Rattle.chip.specs.Phases.{awaitsData, awaitsCommand, isDeaf, afterUnheard}
 use Rattle.chip.specs.Promised.{Refused, Nothing, Acknowledged, NotAcknowledged, Read, nothingStored, Fit, entryRefusal, refusalOf, isAddressed, acknowledge, phaseAfterAddress, controlled, phaseAfterLastRead, pulsed, sensed, commandOf}
-use Rattle.chip.specs.Runs.{continued}
+use Rattle.chip.specs.Runs.{continued, StepByStep}
 use Rattle.chip.specs.When.{When}
 use Rattle.chip.proofs.Events.{by-phase, in-phase-told, command-at, display-step, unheard-at}
-use Rattle.chip.proofs.LastWriter.{Claim, from-written, idle, counts-accepted}
+use Rattle.chip.proofs.LastWriter.{from-written, idle, counts-accepted}
 use Rattle.chip.proofs.Refusals.{verdict, when-so, accepted-step}
-use Rattle.chip.proofs.Runs.{from-append, from-fit}
+use Rattle.chip.proofs.Runs.{from-append, from-fit, from-steps, entry-stops}
 
 -- ---- refusals
 
@@ -115,6 +115,16 @@ run-append xs ys s = go (entryRefusal s)
     go zero = from-append 0 xs ys s
     go (suc k) = refl
 
+-- a run is its steps: it ends in the state that its first `done` steps leave, one by one, none of them refused; where it stops, its refusal is
+-- that of the event that comes next
+pub run-steps : (es : List ℕ) (s : State) → StepByStep es s (runOf es s)
+unfolding runOf
+run-steps es s = go (entryRefusal s) refl
+  where
+    go : (k : ℕ) → entryRefusal s ≡ k → StepByStep es s (unlessStopped k 0 s (runFrom 0 es s))
+    go zero q = from-steps es s (entry-fit s q)
+    go (suc k) q = entry-stops es s k q
+
 -- an allowed record stays allowed over a run, and the memories keep their length
 pub run-stays-fit : (es : List ℕ) (s : State) → Fit s → Fit (runOf es s .state)
 unfolding runOf
@@ -130,6 +140,6 @@ pub last-writer : (es : List ℕ) (s : State) (k : ℕ) → LastWriter es s k
 unfolding runOf
 last-writer es s k = go (entryRefusal s) refl
   where
-    go : (x : ℕ) → entryRefusal s ≡ x → Claim es (unlessStopped x 0 s (runFrom 0 es s) .done) s (unlessStopped x 0 s (runFrom 0 es s) .state) k
+    go : (x : ℕ) → entryRefusal s ≡ x → PlaceAfter es (unlessStopped x 0 s (runFrom 0 es s) .done) s (unlessStopped x 0 s (runFrom 0 es s) .state) k
     go zero q = from-written es s k (entry-fit s q)
     go (suc x) q = inl (idle es s k)

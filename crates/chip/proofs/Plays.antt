@@ -14,12 +14,15 @@ use Rattle.registers.specs.declared.Phase.{Phase}
 use Rattle.registers.specs.declared.Phase.the-variants.{Idle, AddressAwaited, ControlAwaited, OneByte, EndlessBytes}
 use Rattle.registers.specs.State.{State}
 use Rattle.engine.specs.Run.{runOf, unlessStopped, runFrom}
+use Rattle.engine.specs.Event.{isAcknowledged}
 use Rattle.engine.specs.Step.{accepted, counted, controlled, acknowledge}
 use Rattle.engine.proofs.Refusals.{fit-entry}
 use Rattle.engine.specs.Phases.{isAddressed, phaseAfterAddress}
 use Rattle.chip.specs.LastWriter.{before}
-use Rattle.chip.specs.Plays.{Good, Plays, played, Sees, writeAddress, singles, message, dataMessage, commanded, advanced, written, Bytes}
-use Rattle.chip.specs.Promised.{Acknowledged, After, Fit, refusalOf, stepOf, outcome, commandOf, storedOf, placeOf, nextAddress}
+use Rattle.chip.specs.Plays.{Good, Plays, played, Sees, writeAddress, singles, message, dataMessage, Does, Leads, advanced, written, Bytes}
+use Rattle.chip.specs.Plays.Leads.{no-more, by}
+use Rattle.chip.specs.Promised.{After, Fit, refusalOf, stepOf, outcome, storedOf, placeOf, nextAddress}
+use Rattle.commands.specs.Command.{commandOf}
 use Rattle.chip.specs.When.{Listed}
 use Rattle.chip.proofs.Laws.{exactly-when, stays-fit, count-law, start-law, stop-law, address-law, control-law, command-law, display-law}
 use Rattle.registers.proofs.Within.{allowed-pins}
@@ -94,11 +97,11 @@ module _ (r : Registers) (m : List ℕ) (pins n : ℕ) (s : State) (v : Sees r m
         stands 257 h _ (stop-law s h) Idle r m refl (v .registers) (v .memory) (v .pins-are),
       )
 
-  good-byte : (b : ℕ) (a : After) → refusalOf b s ≡ 0 → stepOf b s ≡ a → a .answer ≡ Acknowledged → Good b s
-  good-byte b a h step e = record { not-refused = h; acknowledged = λ _. ap (λ (x : After). x .answer) step ∙ e }
+  good-byte : (b : ℕ) (a : After) → refusalOf b s ≡ 0 → stepOf b s ≡ a → isAcknowledged (a .answer) ≡ true → Good b s
+  good-byte b a h step e = record { not-refused = h; acknowledged = λ _. ap (λ (x : After). isAcknowledged (x .answer)) step ∙ e }
 
   address-plays : s .chip .phase ≡ AddressAwaited → Good (writeAddress pins) s × Stands ControlAwaited r m pins n (stepOf (writeAddress pins) s .state)
-  unfolding counted isAddressed phaseAfterAddress acknowledge
+  unfolding counted isAddressed phaseAfterAddress acknowledge isAcknowledged
   address-plays e =
       let low : pins ≤ 3 = subst (λ (x : ℕ). x ≤ 3) (v .pins-are) (allowed-pins (s .chip) (v .fit .is-allowed)) in
       let byte : writeAddress pins < 256 = omega arith in
@@ -111,30 +114,31 @@ module _ (r : Registers) (m : List ℕ) (pins n : ℕ) (s : State) (v : Sees r m
       )
 
   single-plays : s .chip .phase ≡ ControlAwaited → Good 128 s × Stands (OneByte false) r m pins n (stepOf 128 s .state)
-  unfolding counted controlled
+  unfolding counted controlled isAcknowledged
   single-plays e =
       let h = accepts-byte 128 (omega arith) in
       let law = control-law s 128 (omega arith) h e in
       (good-byte 128 _ h law refl, stands 128 h _ law (OneByte false) r m refl (v .registers) (v .memory) (v .pins-are))
 
   data-plays : s .chip .phase ≡ ControlAwaited → Good 64 s × Stands (EndlessBytes true) r m pins n (stepOf 64 s .state)
-  unfolding counted controlled
+  unfolding counted controlled isAcknowledged
   data-plays e =
       let h = accepts-byte 64 (omega arith) in
       let law = control-law s 64 (omega arith) h e in
       (good-byte 64 _ h law refl, stands 64 h _ law (EndlessBytes true) r m refl (v .registers) (v .memory) (v .pins-are))
 
-  command-plays : (b : ℕ) → b < 256 → s .chip .phase ≡ OneByte false → Good b s × Stands ControlAwaited (commandOf b r) m pins n (stepOf b s .state)
-  unfolding counted
-  command-plays b byte e =
-      let h = accepts-byte b byte in
-      let law = command-law s b byte h (simp e) in
-      (good-byte b _ h law refl, stands b h _ law ControlAwaited (commandOf b r) m (simp e) (ap (commandOf b) (v .registers)) (v .memory) (v .pins-are))
+  command-plays : (b : ℕ) (r′ : Registers) → Does b r r′ → s .chip .phase ≡ OneByte false → Good b s × Stands ControlAwaited r′ m pins n (stepOf b s .state)
+  unfolding counted isAcknowledged
+  command-plays b r′ does e =
+      let h = accepts-byte b (does .is-byte) in
+      let law = command-law s b (does .is-byte) h (simp e) in
+      let left : commandOf b (s .chip .registers) ≡ r′ = ap (commandOf b) (v .registers) ∙ does .leaves in
+      (good-byte b _ h law refl, stands b h _ law ControlAwaited r′ m (simp e) left (v .memory) (v .pins-are))
 
   display-plays :
       (b : ℕ) → b < 256 → s .chip .phase ≡ EndlessBytes true
       → Good b s × Stands (EndlessBytes true) (nextAddress r) (set m (placeOf r) (storedOf r b)) pins n (stepOf b s .state)
-  unfolding counted
+  unfolding counted isAcknowledged
   display-plays b byte e =
       let h = accepts-byte b byte in
       let law = display-law s b byte h (simp e) in (
@@ -147,17 +151,17 @@ module _ (r : Registers) (m : List ℕ) (pins n : ℕ) (s : State) (v : Sees r m
 
 -- commands, each after 80h, then whatever plays from there
 commands-play :
-    (bs es : List ℕ) (Q : State → Type 0) (r : Registers) (m : List ℕ) (pins n : ℕ) → Bytes bs
-    → ((t : State) → Stands ControlAwaited (commanded bs r) m pins n t → Plays es Q t)
+    {bs : List ℕ} {r r′ : Registers} (es : List ℕ) (Q : State → Type 0) (m : List ℕ) (pins n : ℕ) → Leads bs r r′
+    → ((t : State) → Stands ControlAwaited r′ m pins n t → Plays es Q t)
     → (s : State) → Stands ControlAwaited r m pins (2 * length bs + n) s → Plays (singles bs es) Q s
-unfolding commanded Plays
-commands-play [] es Q r m pins n bytes rest s st = rest s (subst (λ (x : ℕ). Stands ControlAwaited r m pins x s) (omega arith) st)
-commands-play (b ∷ bs) es Q r m pins n bytes rest s st =
+unfolding Plays
+commands-play es Q m pins n (no-more {r = r}) rest s st = rest s (subst (λ (x : ℕ). Stands ControlAwaited r m pins x s) (omega arith) st)
+commands-play es Q m pins n (by {b = b} {bs = bs} {r = r} {q = q} does leads) rest s st =
     let two : 2 * suc (length bs) + n ≡ suc (suc (2 * length bs + n)) = omega arith in
     let st′ : Stands ControlAwaited r m pins (suc (suc (2 * length bs + n))) s = subst (λ (x : ℕ). Stands ControlAwaited r m pins x s) two st in
     let one = single-plays r m pins (suc (2 * length bs + n)) s (st′ .sees) (st′ .phase) in
-    let then = command-plays r m pins (2 * length bs + n) (stepOf 128 s .state) (one .1 .sees) b (bytes .0) (one .1 .phase) in
-    (one .0, (then .0, commands-play bs es Q (commandOf b r) m pins n (bytes .1) rest _ (then .1)))
+    let then = command-plays r m pins (2 * length bs + n) (stepOf 128 s .state) (one .1 .sees) b q does (one .1 .phase) in
+    (one .0, (then .0, commands-play es Q m pins n leads rest _ (then .1)))
 
 -- display bytes, then whatever plays from there
 displays-play :
@@ -194,23 +198,23 @@ opens es Q r m pins n rest s v =
 
 -- a message of commands takes the registers along them, and leaves the memory as it was
 pub message-plays :
-    (bs : List ℕ) (r : Registers) (m : List ℕ) (pins n : ℕ) → Bytes bs → (s : State) → Sees r m pins (length (message pins bs) + n) s
-    → Plays (message pins bs) (Sees (commanded bs r) m pins n) s
-message-plays bs r m pins n bytes s v =
-    opens (singles bs (257 ∷ [])) (Sees (commanded bs r) m pins n) r m pins (2 * length bs + suc n)
-    (commands-play bs (257 ∷ []) (Sees (commanded bs r) m pins n) r m pins (suc n) bytes (λ t st. stop-ends ControlAwaited (commanded bs r) m pins n t st))
+    (bs : List ℕ) (r r′ : Registers) (m : List ℕ) (pins n : ℕ) → Leads bs r r′ → (s : State) → Sees r m pins (length (message pins bs) + n) s
+    → Plays (message pins bs) (Sees r′ m pins n) s
+message-plays bs r r′ m pins n leads s v =
+    opens (singles bs (257 ∷ [])) (Sees r′ m pins n) r m pins (2 * length bs + suc n)
+    (commands-play (257 ∷ []) (Sees r′ m pins n) m pins (suc n) leads (λ t st. stop-ends ControlAwaited r′ m pins n t st))
     s (subst (λ (x : ℕ). Sees r m pins x s) (omega (arith, singles-length bs (257 ∷ []))) v)
 
 -- a message with display bytes stores them where its commands say
 pub data-message-plays :
-    (bs ds : List ℕ) (r : Registers) (m : List ℕ) (pins n : ℕ) → Bytes bs → Bytes ds → (s : State) → Sees r m pins (length (dataMessage pins bs ds) + n) s
-    → Plays (dataMessage pins bs ds) (Sees (advanced ds (commanded bs r)) (written ds (commanded bs r) m) pins n) s
+    (bs ds : List ℕ) (r r′ : Registers) (m : List ℕ) (pins n : ℕ) → Leads bs r r′ → Bytes ds
+    → (s : State) → Sees r m pins (length (dataMessage pins bs ds) + n) s
+    → Plays (dataMessage pins bs ds) (Sees (advanced ds r′) (written ds r′ m) pins n) s
 unfolding Plays
-data-message-plays bs ds r m pins n bytes dbytes s v =
-    let r′ = commanded bs r in
+data-message-plays bs ds r r′ m pins n leads dbytes s v =
     let Q : State → Type 0 = Sees (advanced ds r′) (written ds r′ m) pins n in
     opens (singles bs (64 ∷ ds ++ 257 ∷ [])) Q r m pins (2 * length bs + suc (length ds + suc n))
-    (commands-play bs (64 ∷ ds ++ 257 ∷ []) Q r m pins (suc (length ds + suc n)) bytes
+    (commands-play (64 ∷ ds ++ 257 ∷ []) Q m pins (suc (length ds + suc n)) leads
     (λ t st.
     let control = data-plays r′ m pins (length ds + suc n) t (st .sees) (st .phase) in (
       control .0,

@@ -5,10 +5,10 @@ use Prim.Native.Nat.{ℕ, zero, suc, _+_}
 use native.Mathlib.Nat.{add-zero}
 use native.Mathlib.Omega.{arith}
 use Rattle.registers.specs.State.{State}
-use Rattle.engine.specs.Run.{runOf, unlessStopped}
+use Rattle.engine.specs.Run.{runFrom, runOf, unlessStopped}
 use Rattle.engine.specs.Step.{refusalOf}
 use Rattle.engine.proofs.Refusals.{entry-fit, fit-entry}
-use Rattle.chip.specs.Promised.{Fit, Outcome, outcome, entryRefusal, accepted, stepOf, runFrom}
+use Rattle.chip.specs.Promised.{Fit, Outcome, outcome, entryRefusal, accepted, stepOf}
 use Rattle.chip.specs.RunOn.{ranOne, moreDone, thenRun}
 use Rattle.chip.specs.Runs.{onward, continued}
 use Rattle.chip.proofs.LastWriter.{counts-accepted}
@@ -22,6 +22,7 @@ unfolding runOf
 entered es s fit = rw (fit-entry s fit)
 
 pub run-none : (s : State) → Fit s → runOf [] s ≡ outcome 0 0 s
+unfolding runFrom
 run-none s fit = entered [] s fit
 
 event-entry : (e : ℕ) (s : State) (k : ℕ) → entryRefusal s ≡ suc k → refusalOf e s ≡ suc k
@@ -30,7 +31,7 @@ event-entry e s k q = rw q
 
 -- an event is refused by the same number as its step, or leaves what its step leaves
 pub run-one : (e : ℕ) (s : State) → runOf (e ∷ []) s ≡ ranOne (refusalOf e s) (stepOf e s .state)
-unfolding runOf
+unfolding runOf runFrom
 run-one e s = go (entryRefusal s) refl (refusalOf e s) refl
   where
     go :
@@ -67,7 +68,7 @@ run-then xs ys s = run-append xs ys s ∙ go (runOf xs s) (λ z. run-stays-fit x
 
 -- a run adds to the count as many as it has done
 pub run-counts : (es : List ℕ) (s : State) → runOf es s .state .chip .count ≡ s .chip .count + runOf es s .done
-unfolding runOf
+unfolding runOf runFrom
 run-counts es s = by (entryRefusal s)
   where
     from : (es : List ℕ) (s : State) → runFrom 0 es s .state .chip .count ≡ s .chip .count + runFrom 0 es s .done

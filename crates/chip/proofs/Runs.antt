@@ -1,13 +1,20 @@
 -- Runs: how far one goes, what the first events leave to the rest, and that the record stays allowed.
 use mathlib.Core.List.{List, [], _∷_, _++_}
-use mathlib.Core.Path.{_≡_, refl, _∙_}
-use Prim.Native.Nat.{ℕ, zero, suc, _+_}
-use native.Mathlib.Nat.{add-assoc, add-zero}
+use mathlib.Core.Path.{_≡_, refl, sym, _∙_, subst}
+use Prim.Native.Nat.{ℕ, zero, suc, _+_, _<_, suc-le-suc, zero-le}
+use native.Mathlib.Nat.{add-assoc, add-zero, le-of-suc-le-suc}
+use native.Mathlib.Numerals.{one-add}
+use native.Mathlib.Omega.{arith}
+use lib.ListN.{getD}
 use Rattle.registers.specs.State.{State}
 use Rattle.engine.specs.Run.{unlessStopped, runFrom}
-use Rattle.chip.specs.Promised.{Fit, refusalOf, accepted, Outcome, outcome}
-use Rattle.chip.specs.Runs.{continued}
+use Rattle.engine.specs.Step.{refusalOf}
+use Rattle.chip.specs.Promised.{After, Fit, entryRefusal, accepted, stepOf, Outcome, outcome}
+use Rattle.chip.specs.LastWriter.{before}
+use Rattle.chip.specs.Runs.{continued, StepByStep}
+use Rattle.chip.proofs.Refusals.{accepted-step}
 use Rattle.engine.proofs.Allowed.{accepted-fit}
+use Rattle.engine.proofs.Refusals.{fit-entry}
 
 -- what was done before only counts along
 pub run-shift : (n : ℕ) (es : List ℕ) (s : State) → runFrom n es s ≡ outcome (n + runFrom 0 es s .done) (runFrom 0 es s .refusal) (runFrom 0 es s .state)
@@ -41,3 +48,54 @@ from-fit n (e ∷ es) s fit = go (refusalOf e s) _ (from-fit (n + 1) es (accepte
     go : (k : ℕ) (x : Outcome) → Fit (x .state) → Fit (unlessStopped k n s x .state)
     go zero x h = h
     go (suc k) x h = fit
+
+-- ---- step by step
+
+-- nothing was done, and the first event is refused
+refused-first : (e : ℕ) (es : List ℕ) (s : State) (k : ℕ) → refusalOf e s ≡ suc k → StepByStep (e ∷ es) s (outcome 0 (suc k) s)
+refused-first e es s k q =
+    record { ends = refl; no-more = zero-le; accepted = λ i h. absurd (omega arith); stopped = λ h. sym q; finished = λ h. absurd (omega arith) }
+
+-- the first event is done, and the rest follow from the state that its step leaves
+first-done :
+    (e : ℕ) (es : List ℕ) (s : State) (o : Outcome) → refusalOf e s ≡ 0 → Fit s → StepByStep es (stepOf e s .state) o
+    → StepByStep (e ∷ es) s (outcome (suc (o .done)) (o .refusal) (o .state))
+first-done e es s o q fit rest =
+    record {
+      ends = rest .ends;
+      no-more = suc-le-suc (rest .no-more);
+      accepted = each;
+      stopped = λ h. rest .stopped (le-of-suc-le-suc h);
+      finished = λ h. rest .finished (omega (arith, h)) ∙ fit-entry _ (stays e s q fit) ∙ sym (fit-entry s fit);
+    }
+  where
+    each : (i : ℕ) → i < suc (o .done) → refusalOf (getD (e ∷ es) i 0) (before (e ∷ es) i s) ≡ 0
+    each zero h = q
+    each (suc i) h = rest .accepted i (le-of-suc-le-suc h)
+
+    stays : (e : ℕ) (s : State) → refusalOf e s ≡ 0 → Fit s → Fit (stepOf e s .state)
+    stays e s h fit = rw (accepted-step e s h) (accepted-fit e s fit)
+
+pub from-steps : (es : List ℕ) (s : State) → Fit s → StepByStep es s (runFrom 0 es s)
+unfolding runFrom
+from-steps [] s fit =
+    record { ends = refl; no-more = zero-le; accepted = λ i h. absurd (omega arith); stopped = λ h. absurd (omega arith); finished = λ h. sym (fit-entry s fit) }
+from-steps (e ∷ es) s fit = go (refusalOf e s) refl (from-steps es (accepted e s .state) (accepted-fit e s fit))
+  where
+    go :
+        (k : ℕ) → refusalOf e s ≡ k → StepByStep es (accepted e s .state) (runFrom 0 es (accepted e s .state))
+        → StepByStep (e ∷ es) s (unlessStopped k 0 s (runFrom 1 es (accepted e s .state)))
+    go (suc k) q rest = refused-first e es s k q
+    go zero q rest =
+        let o = runFrom 0 es (accepted e s .state) in
+        let next : StepByStep es (stepOf e s .state) o = subst (λ (a : After). StepByStep es (a .state) o) (sym (accepted-step e s q)) rest in
+        let all : StepByStep (e ∷ es) s (outcome (suc (o .done)) (o .refusal) (o .state)) = first-done e es s o q fit next in
+        subst (StepByStep (e ∷ es) s) (sym (run-shift 1 es (accepted e s .state)))
+        (subst (λ (n : ℕ). StepByStep (e ∷ es) s (outcome n (o .refusal) (o .state))) (sym (one-add (o .done))) all)
+
+-- refused at entry: so is the first event, if there is one
+pub entry-stops : (es : List ℕ) (s : State) (k : ℕ) → entryRefusal s ≡ suc k → StepByStep es s (outcome 0 (suc k) s)
+unfolding refusalOf
+entry-stops [] s k q =
+    record { ends = refl; no-more = zero-le; accepted = λ i h. absurd (omega arith); stopped = λ h. absurd (omega arith); finished = λ h. sym q }
+entry-stops (e ∷ es) s k q = refused-first e es s k (rw q)

@@ -7,13 +7,13 @@ use Prim.Native.Nat.{ℕ, zero, suc, _+_, _<_}
 use lib.ListN.{getD}
 use Rattle.registers.specs.State.{State}
 use Rattle.chip.specs.Phases.{awaitsData}
-use Rattle.chip.specs.Promised.{Acknowledged, stepOf, runOf, placeOf, storedOf}
+use Rattle.chip.specs.Promised.{isAcknowledged, stepOf, runOf, placeOf, storedOf}
 
 -- event e, coming upon s, is an acknowledged display byte at place k
 pub record Lands (e : ℕ) (s : State) (k : ℕ) : Type 0 where
   pub is-byte : e < 256
   pub is-data : awaitsData (s .chip .phase) ≡ true
-  pub acknowledged : stepOf e s .answer ≡ Acknowledged
+  pub acknowledged : isAcknowledged (stepOf e s .answer) ≡ true
   pub at-place : placeOf (s .chip .registers) ≡ k
 
 -- the state that event i of the list, counted from 0, comes upon
@@ -37,6 +37,10 @@ pub record Written (es : List ℕ) (n : ℕ) (s end : State) (k : ℕ) : Type 0 
   pub byte : getD (end .memory) k 0 ≡ storedOf (before es event s .chip .registers) (getD es event 0)
   pub writer : getD (end .writers) k 0 ≡ s .chip .count + (event + 1)
 
+-- place k after n events that took s to end
+abbrev pub PlaceAfter : List ℕ → ℕ → State → State → ℕ → Type 0
+PlaceAfter es n s end k = Untouched es n s end k ⊎ Written es n s end k
+
 -- the whole run, with a refused tail too: the events that were done
 abbrev pub LastWriter : List ℕ → State → ℕ → Type 0
-LastWriter es s k = Untouched es (runOf es s .done) s (runOf es s .state) k ⊎ Written es (runOf es s .done) s (runOf es s .state) k
+LastWriter es s k = PlaceAfter es (runOf es s .done) s (runOf es s .state) k

@@ -1,16 +1,17 @@
 -- Events played one after the other, and what one needs to know of a chip to speak to it.
+use mathlib.Core.Bool.{true}
 use mathlib.Core.List.{List, [], _∷_, _++_}
 use mathlib.Core.Path.{_≡_}
 use Prim.Native.Nat.{ℕ, _+_, _*_, _^_, _<_}
 use lib.ListN.{set}
 use Rattle.registers.specs.declared.Registers.{Registers}
 use Rattle.registers.specs.State.{State}
-use Rattle.chip.specs.Promised.{Acknowledged, Fit, refusalOf, stepOf, commandOf, storedOf, placeOf, nextAddress}
+use Rattle.chip.specs.Promised.{isAcknowledged, Fit, refusalOf, stepOf, commandOf, storedOf, placeOf, nextAddress}
 
 -- the event is not refused, and if it is a byte it is acknowledged
 pub record Good (e : ℕ) (s : State) : Type 0 where
   pub not-refused : refusalOf e s ≡ 0
-  pub acknowledged : e < 256 → stepOf e s .answer ≡ Acknowledged
+  pub acknowledged : e < 256 → isAcknowledged (stepOf e s .answer) ≡ true
 
 -- each event is good upon the state that the one before it left, and Q holds of the last state
 unfoldable pub Plays : List ℕ → (State → Type 0) → State → Type 0
@@ -49,11 +50,17 @@ message pins bs = 256 ∷ writeAddress pins ∷ singles bs (257 ∷ [])
 abbrev pub dataMessage : ℕ → List ℕ → List ℕ → List ℕ
 dataMessage pins bs ds = 256 ∷ writeAddress pins ∷ singles bs (64 ∷ ds ++ 257 ∷ [])
 
--- the registers after command bytes, and after display bytes
-unfoldable pub commanded : List ℕ → Registers → Registers
-commanded [] r = r
-commanded (b ∷ bs) r = commanded bs (commandOf b r)
+-- command byte b takes registers r to r′
+pub record Does (b : ℕ) (r r′ : Registers) : Type 0 where
+  pub is-byte : b < 256
+  pub leaves : commandOf b r ≡ r′
 
+-- command bytes, one after the other, take r to r′
+pub data Leads : List ℕ → Registers → Registers → Type 0 where
+  no-more : {r : Registers} → Leads [] r r
+  by : {b : ℕ} {bs : List ℕ} {r q r′ : Registers} → Does b r q → Leads bs q r′ → Leads (b ∷ bs) r r′
+
+-- the registers after display bytes
 unfoldable pub advanced : List ℕ → Registers → Registers
 advanced [] r = r
 advanced (d ∷ ds) r = advanced ds (nextAddress r)

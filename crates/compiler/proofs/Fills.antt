@@ -15,10 +15,10 @@ use Rattle.registers.specs.Reversed.{reversedOf, ordered}
 use Rattle.registers.specs.State.{State, places}
 use Rattle.registers.proofs.Within.{register-bound, allowed-registers}
 use Rattle.chip.specs.Paint.{In, Paints, mirrored}
-use Rattle.chip.specs.Plays.{Plays, Sees, Bytes, commanded, advanced, written}
+use Rattle.chip.specs.Plays.{Plays, Sees, Bytes, advanced, written}
 use Rattle.chip.proofs.Paint.{reversed-byte, paints-none, paints-both, in-or-out, across-paints, down-paints}
 use Rattle.chip.proofs.Plays.{plays-none, plays-append, plays-weaken, data-message-plays}
-use Rattle.chip.proofs.Rows.{address-commands, advanced-blank}
+use Rattle.chip.proofs.Rows.{address-leads, advanced-blank}
 use Rattle.compiler.specs.Stream.{run, across, down}
 
 -- a state that shows these registers but H, X and Y, and the memory m with b painted inside
@@ -55,19 +55,11 @@ run-plays :
     → Sees r m pins (length (run pins (blank r) x y n b) + k) s
     → Plays (run pins (blank r) x y n b) (Drawn Inside b m (blank r) pins k) s
 run-plays r x n y b pins k m s Inside hx hy hb paints see =
-    let bs : List ℕ = 1 ∷ (128 + x) ∷ (64 + y) ∷ [] in
     let ds = replicate n (ordered (r .«data_order») b) in
-    let told = address-commands x y r (seen-page r m pins _ s see) hx hy in
-    plays-weaken (run pins (blank r) x y n b) (Sees (advanced ds (commanded bs r)) (written ds (commanded bs r) m) pins k) (Drawn Inside b m (blank r) pins k) s
-    (λ t after.
-    record {
-      memory = written ds (commanded bs r) m;
-      paints = subst (λ (u : Registers). Paints Inside b m (written ds u m)) (sym told) paints;
-      full = advanced ds (commanded bs r);
-      sees = after;
-      same = advanced-blank ds (commanded bs r) ∙ ap blank told;
-    })
-    (data-message-plays bs ds r m pins k (omega arith, (omega arith, (omega arith, tt)))
+    let r′ = put Y y (put X x (put H 0 r)) in
+    plays-weaken (run pins (blank r) x y n b) (Sees (advanced ds r′) (written ds r′ m) pins k) (Drawn Inside b m (blank r) pins k) s
+    (λ t seen. record { memory = written ds r′ m; paints = paints; full = advanced ds r′; sees = seen; same = advanced-blank ds r′ })
+    (data-message-plays (1 ∷ (128 + x) ∷ (64 + y) ∷ []) ds r r′ m pins k (address-leads x y r (seen-page r m pins _ s see) hx hy)
     (bytes-replicate n (ordered (r .«data_order») b) (ordered-byte (eqb (r .«data_order») 1) b hb)) s see)
 
 -- the same, told by the tracked registers q

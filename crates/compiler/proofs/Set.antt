@@ -15,15 +15,14 @@ use Rattle.registers.specs.Record.{limits, put, blank, allowedRegisters}
 use Rattle.registers.specs.State.{State}
 use Rattle.registers.proofs.Below.{below-at, true-false}
 use Rattle.registers.proofs.Parts.{grey-limit}
-use Rattle.registers.proofs.Encode.{FitParts, row-byte}
+use Rattle.registers.proofs.Encode.{FitParts}
 use Rattle.registers.proofs.Put.{put-same, put-other, put-allowed}
 use Rattle.registers.proofs.TableTest.{rowNo}
 use Rattle.registers.proofs.Within.{both-left, both-right}
-use Rattle.chip.specs.Plays
-use Rattle.chip.specs.Plays.{Plays, Sees, Bytes, message, commanded}
-use Rattle.chip.specs.Promised.{commandOf}
+use Rattle.chip.specs.Plays.{Plays, Sees, Bytes, message, Does, Leads}
+use Rattle.chip.specs.Plays.Leads.{no-more, by}
 use Rattle.chip.proofs.Plays.{plays-weaken, message-plays}
-use Rattle.chip.proofs.Rows.{row-command, return-command, page-command}
+use Rattle.chip.proofs.Rows.{leads-bytes, row-does, return-does, page-does}
 use Rattle.compiler.specs.Plain.{setTo}
 use Rattle.compiler.specs.Stream.{pageOf, leave, enter, rowBytes, setCommands}
 use Rattle.compiler.proofs.Fill.{Shows}
@@ -32,45 +31,59 @@ use Rattle.compiler.proofs.Sets.{at, simple-fits, aimed-at, partsFor, i
 
 -- ---- one row in its page, from page 0 and back
 
+-- the commands of row i, from page 0 and back, take r to registers whose fields in the row are t's; everything else but H is as it was
+record RowSet (f : ℕ) (t r : Registers) : Type 0 where
+  after : Registers
+  leads : Leads (rowBytes (rowFor f ∷ []) t) r after
+  fields : (g : ℕ) → (g ≡ H → ⊥) → at after g ≡ cond (hasField g (partsFor f)) (at t g) (at r g)
+
 module _ (f : ℕ) (row : SimpleRow f) (t r : Registers) (zero-page : r .h ≡ 0) (ok : allowedRegisters t ≡ true) where
   fit : FitParts (rowNo (rowFor f) .parts) t
   fit = simple-fits (partsFor f) (row .registers-only) t ok
 
-  -- the row's fields as aimed, everything else but H as it was
-  abbrev Aimed : Registers → Type 0
-  Aimed z = (g : ℕ) → (g ≡ H → ⊥) → at z g ≡ cond (hasField g (partsFor f)) (at t g) (at r g)
+  abbrev page : ℕ
+  page = pageOf (rowFor f)
 
-  in-page-0 : pageOf (rowFor f) ≡ 0 → Aimed (commanded (enter (pageOf (rowFor f)) ++ rowByte (rowNo (rowFor f)) t ∷ leave (pageOf (rowFor f))) r)
-  unfolding Plays.commanded
-  in-page-0 e g n =
-      subst (λ (p : ℕ). at (commanded (enter p ++ rowByte (rowNo (rowFor f)) t ∷ leave p) r) g ≡ cond (hasField g (partsFor f)) (at t g) (at r g)) (sym e)
-      (ap (λ (z : Registers). at z g) (row-command (rowFor f) (row .listed) t fit r (omega arith) (e ∙ sym zero-page)) ∙ aimed-at (partsFor f) (row .registers-only) t r g)
+  abbrev byte : ℕ
+  byte = rowByte (rowNo (rowFor f)) t
 
-  there-and-back : (p : ℕ) → p ≤ 4 → pageOf (rowFor f) ≡ p → commanded ((8 + p) ∷ rowByte (rowNo (rowFor f)) t ∷ 1 ∷ []) r ≡ put H 0 (aimed (partsFor f) t (put H p r))
-  unfolding Plays.commanded
-  there-and-back p l e =
-      ap (λ (z : Registers). commandOf 1 (commandOf (rowByte (rowNo (rowFor f)) t) z)) (page-command p r zero-page l)
-      ∙ ap (commandOf 1) (row-command (rowFor f) (row .listed) t fit (put H p r) l e)
-      ∙ return-command (aimed (partsFor f) t (put H p r))
-      (subst (λ (h : ℕ). h ≤ 4) (sym (aimed-at (partsFor f) (row .registers-only) t (put H p r) H ∙ ap (λ (b : Bool). cond b (at t H) p) (row .not-page))) l)
+  in-page-0 : page ≡ 0 → RowSet f t r
+  in-page-0 e =
+      record {
+        after = aimed (partsFor f) t r;
+        leads = subst (λ (p : ℕ). Leads (enter p ++ byte ∷ leave p) r (aimed (partsFor f) t r)) (sym e)
+            (by (row-does (rowFor f) (row .listed) t fit r (omega arith) (e ∙ sym zero-page)) no-more);
+        fields = λ g n. aimed-at (partsFor f) (row .registers-only) t r g;
+      }
 
-  in-other-page :
-      (pageOf (rowFor f) ≡ 0 → ⊥) → Aimed (commanded (enter (pageOf (rowFor f)) ++ rowByte (rowNo (rowFor f)) t ∷ leave (pageOf (rowFor f))) r)
-  in-other-page d g n =
-      let p = pageOf (rowFor f) in
-      ap (λ (l : List ℕ). at (commanded l r) g) shape
-      ∙ ap (λ (z : Registers). at z g) (there-and-back p (row .page) refl)
-      ∙ put-other H 0 (aimed (partsFor f) t (put H p r)) g n
-      ∙ aimed-at (partsFor f) (row .registers-only) t (put H p r) g
-      ∙ ap (λ (x : ℕ). cond (hasField g (partsFor f)) (at t g) x) (put-other H p r g n)
+  in-other-page : (page ≡ 0 → ⊥) → RowSet f t r
+  in-other-page d =
+      record {
+        after = put H 0 inside;
+        leads = subst (λ (bs : List ℕ). Leads bs r (put H 0 inside)) (sym shape)
+            (by (page-does page r zero-page (row .page))
+            (by (row-does (rowFor f) (row .listed) t fit (put H page r) (row .page) refl) (by (return-does inside same-page) no-more)));
+        fields = λ g n.
+            put-other H 0 inside g n ∙ aimed-at (partsFor f) (row .registers-only) t (put H page r) g
+            ∙ ap (λ (x : ℕ). cond (hasField g (partsFor f)) (at t g) x) (put-other H page r g n);
+      }
     where
-      shape : enter (pageOf (rowFor f)) ++ rowByte (rowNo (rowFor f)) t ∷ leave (pageOf (rowFor f)) ≡ (8 + pageOf (rowFor f)) ∷ rowByte (rowNo (rowFor f)) t ∷ 1 ∷ []
-      shape = simp (ne-eqb (pageOf (rowFor f)) 0 d)
+      inside : Registers
+      inside = aimed (partsFor f) t (put H page r)
 
-  row-aims : Aimed (commanded (enter (pageOf (rowFor f)) ++ rowByte (rowNo (rowFor f)) t ∷ leave (pageOf (rowFor f))) r)
-  row-aims = go (ℕ-discrete (pageOf (rowFor f)) 0)
+      same-page : inside .h ≤ 4
+      same-page =
+          subst (λ (h : ℕ). h ≤ 4)
+          (sym (aimed-at (partsFor f) (row .registers-only) t (put H page r) H ∙ ap (λ (b : Bool). cond b (at t H) page) (row .not-page)))
+          (row .page)
+
+      shape : enter page ++ byte ∷ leave page ≡ (8 + page) ∷ byte ∷ 1 ∷ []
+      shape = simp (ne-eqb page 0 d)
+
+  row-set : RowSet f t r
+  row-set = go (ℕ-discrete page 0)
     where
-      go : Dec (pageOf (rowFor f) ≡ 0) → Aimed (commanded (enter (pageOf (rowFor f)) ++ rowByte (rowNo (rowFor f)) t ∷ leave (pageOf (rowFor f))) r)
+      go : Dec (page ≡ 0) → RowSet f t r
       go (yes e) = in-page-0 e
       go (no d) = in-other-page d
 
@@ -92,38 +105,48 @@ pub record SetFits (f n : ℕ) : Type 0 where
   pub not-y : f ≡ Y → ⊥
   pub value : n ≤ getD limits f 0
 
-plain-bytes : (f n : ℕ) → isGrey f ≡ false → (q : Registers) → setCommands f (setTo f n q) ≡ 1 ∷ rowBytes (rowFor f ∷ []) (put f n q)
-unfolding setTo
-plain-bytes f n e q =
-    ap (λ (b : Bool). 1 ∷ rowBytes (cond b (rowFor GR ∷ rowFor f ∷ []) (rowFor f ∷ [])) (cond b (put f n (put GR (f - GS0) q)) (put f n q))) e
+-- the commands of a set take r to registers that the plain reading gives, but for H, X and Y
+pub record Setting (f n : ℕ) (r : Registers) : Type 0 where
+  pub after : Registers
+  pub leads : Leads (setCommands f (setTo f n (blank r))) r after
+  pub shows : blank after ≡ setTo f n (blank r)
 
 set-simple :
-    (f n : ℕ) → SetFits f n → isGrey f ≡ false → isApart f ≡ false → (r : Registers) → r .h ≤ 4 → allowedRegisters r ≡ true
-    → blank (commanded (setCommands f (setTo f n (blank r))) r) ≡ setTo f n (blank r)
-unfolding Plays.commanded setTo
+    (f n : ℕ) → SetFits f n → isGrey f ≡ false → isApart f ≡ false → (r : Registers) → r .h ≤ 4 → allowedRegisters r ≡ true → Setting f n r
+unfolding setTo
 set-simple f n fits plain apart r page ok =
-    subst
-    (λ (b : Bool).
-    blank (commanded (1 ∷ rowBytes (cond b (rowFor GR ∷ rowFor f ∷ []) (rowFor f ∷ [])) (cond b (put f n (put GR (f - GS0) (blank r))) (put f n (blank r)))) r)
-    ≡ cond b (put f n (put GR (f - GS0) (blank r))) (put f n (blank r)))
-    (sym plain)
-    (ap (λ (z : Registers). blank (commanded (rowBytes (rowFor f ∷ []) (put f n (blank r))) z)) (return-command r page)
-    ∙ shows-target (commanded (rowBytes (rowFor f ∷ []) (put f n (blank r))) (put H 0 r)) (put f n (blank r)) (put-blank f n (blank r) (fits .not-page) (fits .not-x) (fits .not-y) refl) each)
+    record {
+      after = done .after;
+      leads = subst (λ (bs : List ℕ). Leads bs r (done .after)) (sym commands) (by (return-does r page) (done .leads));
+      shows = shows-target (done .after) t (put-blank f n (blank r) (fits .not-page) (fits .not-x) (fits .not-y) refl) each ∙ sym target;
+    }
   where
+    t : Registers
+    t = put f n (blank r)
+
+    target : setTo f n (blank r) ≡ t
+    target = ap (λ (b : Bool). cond b (put f n (put GR (f - GS0) (blank r))) (put f n (blank r))) plain
+
+    commands : setCommands f (setTo f n (blank r)) ≡ 1 ∷ rowBytes (rowFor f ∷ []) t
+    commands =
+        ap (setCommands f) target ∙ ap (λ (b : Bool). 1 ∷ rowBytes (cond b (rowFor GR ∷ rowFor f ∷ []) (rowFor f ∷ [])) (put f n (blank r))) plain
+
     row : SimpleRow f
     row = simple-row f (fits .place) apart
 
-    t-ok : allowedRegisters (put f n (blank r)) ≡ true
-    t-ok = put-allowed f n (blank r) (fits .value) (blank-allowed r ok)
+    done : RowSet f (put f n (blank r)) (put H 0 r)
+    done = row-set f row (put f n (blank r)) (put H 0 r) refl (put-allowed f n (blank r) (fits .value) (blank-allowed r ok))
 
-    other : (b : Bool) (g : ℕ) → hasField g (partsFor f) ≡ b → (g ≡ H → ⊥) → (g ≡ X → ⊥) → (g ≡ Y → ⊥) → cond b (at (put f n (blank r)) g) (at (put H 0 r) g) ≡ at (put f n (blank r)) g
+    other :
+        (b : Bool) (g : ℕ) → hasField g (partsFor f) ≡ b → (g ≡ H → ⊥) → (g ≡ X → ⊥) → (g ≡ Y → ⊥)
+        → cond b (at (put f n (blank r)) g) (at (put H 0 r) g) ≡ at (put f n (blank r)) g
     other true g e h x y = refl
     other false g e h x y =
         put-other H 0 r g h ∙ sym (blank-at r g h x y)
         ∙ sym (put-other f n (blank r) g (λ q. true-false (sym (row .own) ∙ ap (λ (k : ℕ). hasField k (partsFor f)) (sym q) ∙ e)))
 
-    each : (g : ℕ) → g < 29 → (g ≡ H → ⊥) → (g ≡ X → ⊥) → (g ≡ Y → ⊥) → at (commanded (rowBytes (rowFor f ∷ []) (put f n (blank r))) (put H 0 r)) g ≡ at (put f n (blank r)) g
-    each g l h x y = row-aims f row (put f n (blank r)) (put H 0 r) refl t-ok g h ∙ other (hasField g (partsFor f)) g refl h x y
+    each : (g : ℕ) → g < 29 → (g ≡ H → ⊥) → (g ≡ X → ⊥) → (g ≡ Y → ⊥) → at (done .after) g ≡ at (put f n (blank r)) g
+    each g l h x y = done .fields g h ∙ other (hasField g (partsFor f)) g refl h x y
 
 -- ---- the grey registers
 
@@ -150,25 +173,22 @@ module _ (k n : ℕ) (lk : k < 4) (ln : n ≤ 63) (r : Registers) (page : r .h �
   fit-level : FitParts (rowNo 17 .parts) goal
   fit-level = (omega (arith, ap (at goal) chosen, goal-level), tt)
 
-  grey-all-bytes : Bytes (1 ∷ 11 ∷ rowByte (rowNo 16) goal ∷ rowByte (rowNo 17) goal ∷ 1 ∷ [])
-  grey-all-bytes = (omega arith, (omega arith, (row-byte 16 (omega arith) goal fit-select, (row-byte 17 (omega arith) goal fit-level, (omega arith, tt)))))
-
   after-select : Registers
   after-select = put GR (at goal GR) (put H 3 (put H 0 r))
 
   -- page return, page 3, select, level, page return
-  grey-commands :
-      commanded (1 ∷ 11 ∷ rowByte (rowNo 16) goal ∷ rowByte (rowNo 17) goal ∷ 1 ∷ []) r ≡ put H 0 (put (GS0 + k) (at goal (GS0 + k)) after-select)
-  unfolding Plays.commanded after-select
-  grey-commands =
-      ap (λ (z : Registers). commandOf 1 (commandOf (rowByte (rowNo 17) goal) (commandOf (rowByte (rowNo 16) goal) (commandOf 11 z)))) (return-command r page)
-      ∙ ap (λ (z : Registers). commandOf 1 (commandOf (rowByte (rowNo 17) goal) (commandOf (rowByte (rowNo 16) goal) z))) (page-command 3 (put H 0 r) refl (omega arith))
-      ∙ ap (λ (z : Registers). commandOf 1 (commandOf (rowByte (rowNo 17) goal) z))
-      (row-command 16 (omega arith) goal fit-select (put H 3 (put H 0 r)) (omega arith) refl)
-      ∙ ap (commandOf 1) (row-command 17 (omega arith) goal fit-level (put GR (at goal GR) (put H 3 (put H 0 r))) (omega arith) refl)
-      ∙ ap (λ (f : ℕ). commandOf 1 (put f (at goal f) (put GR (at goal GR) (put H 3 (put H 0 r))))) chosen
-      ∙ return-command (put (GS0 + k) (at goal (GS0 + k)) (put GR (at goal GR) (put H 3 (put H 0 r))))
-      (omega (arith, put-other (GS0 + k) (at goal (GS0 + k)) (put GR (at goal GR) (put H 3 (put H 0 r))) H (λ e. omega arith)))
+  grey-leads :
+      Leads (1 ∷ 11 ∷ rowByte (rowNo 16) goal ∷ rowByte (rowNo 17) goal ∷ 1 ∷ []) r (put H 0 (put (GS0 + k) (at goal (GS0 + k)) after-select))
+  unfolding after-select
+  grey-leads =
+      let levelled = put (GS0 + k) (at goal (GS0 + k)) after-select in
+      by (return-does r page)
+      (by (page-does 3 (put H 0 r) refl (omega arith))
+      (by (row-does 16 (omega arith) goal fit-select (put H 3 (put H 0 r)) (omega arith) refl)
+      (by
+      (subst (λ (f : ℕ). Does (rowByte (rowNo 17) goal) after-select (put f (at goal f) after-select)) chosen
+      (row-does 17 (omega arith) goal fit-level after-select (omega arith) refl))
+      (by (return-does levelled (omega (arith, put-other (GS0 + k) (at goal (GS0 + k)) after-select H (λ e. omega arith)))) no-more))))
 
   grey-each :
       (g : ℕ) → g < 29 → (g ≡ H → ⊥) → (g ≡ X → ⊥) → (g ≡ Y → ⊥) → at (put H 0 (put (GS0 + k) (at goal (GS0 + k)) after-select)) g ≡ at goal g
@@ -192,8 +212,8 @@ module _ (k n : ℕ) (lk : k < 4) (ln : n ≤ 63) (r : Registers) (page : r .h �
   grey-blank : blank goal ≡ goal
   grey-blank = put-blank (GS0 + k) n (put GR k (blank r)) (λ e. omega arith) (λ e. omega arith) (λ e. omega arith) refl
 
-  grey-shows : blank (commanded (1 ∷ 11 ∷ rowByte (rowNo 16) goal ∷ rowByte (rowNo 17) goal ∷ 1 ∷ []) r) ≡ goal
-  grey-shows = ap blank grey-commands ∙ shows-target (put H 0 (put (GS0 + k) (at goal (GS0 + k)) after-select)) goal grey-blank grey-each
+  grey-shows : blank (put H 0 (put (GS0 + k) (at goal (GS0 + k)) after-select)) ≡ goal
+  grey-shows = shows-target (put H 0 (put (GS0 + k) (at goal (GS0 + k)) after-select)) goal grey-blank grey-each
 
 -- ---- any set
 
@@ -212,12 +232,15 @@ module _ (k n : ℕ) (lk : k < 4) (ln : n ≤ 63) (r : Registers) (page : r .h �
       ap (λ (b : Bool). 1 ∷ rowBytes (cond b (rowFor GR ∷ rowFor (GS0 + k) ∷ []) (rowFor (GS0 + k) ∷ [])) t) is-grey
       ∙ ap (λ (i : ℕ). 1 ∷ rowBytes (16 ∷ i ∷ []) t) (grey-row k lk)
 
-  set-grey : blank (commanded (setCommands (GS0 + k) (setTo (GS0 + k) n (blank r))) r) ≡ setTo (GS0 + k) n (blank r)
+  set-grey : Setting (GS0 + k) n r
   set-grey =
-      ap (λ (t : Registers). blank (commanded (setCommands (GS0 + k) t) r)) grey-target
-      ∙ ap (λ (bs : List ℕ). blank (commanded bs r)) (grey-bytes (put (GS0 + k) n (put GR k (blank r))))
-      ∙ grey-shows k n lk ln r page
-      ∙ sym grey-target
+      let goal′ = put (GS0 + k) n (put GR k (blank r)) in
+      record {
+        after = put H 0 (put (GS0 + k) (at goal′ (GS0 + k)) (after-select k n lk ln r page));
+        leads = subst (λ (bs : List ℕ). Leads bs r (put H 0 (put (GS0 + k) (at goal′ (GS0 + k)) (after-select k n lk ln r page))))
+            (sym (ap (setCommands (GS0 + k)) grey-target ∙ grey-bytes goal′)) (grey-leads k n lk ln r page);
+        shows = grey-shows k n lk ln r page ∙ sym grey-target;
+      }
 
 not-apart : (f : ℕ) → (f ≡ H → ⊥) → (f ≡ X → ⊥) → (f ≡ Y → ⊥) → isGrey f ≡ false → isApart f ≡ false
 not-apart f h x y g = simp (ne-eqb f H h, ne-eqb f X x, ne-eqb f Y y, g)
@@ -225,63 +248,20 @@ not-apart f h x y g = simp (ne-eqb f H h, ne-eqb f X x, ne-eqb f Y y, g)
 pub grey-bounds : (f : ℕ) → isGrey f ≡ true → (GS0 ≤ f) × (f ≤ GS3)
 grey-bounds f e = (leb-true GS0 f (both-left (leb GS0 f) (leb f GS3) e), leb-true f GS3 (both-right (leb GS0 f) (leb f GS3) e))
 
-set-registers :
-    (f n : ℕ) → SetFits f n → (r : Registers) → r .h ≤ 4 → allowedRegisters r ≡ true
-    → blank (commanded (setCommands f (setTo f n (blank r))) r) ≡ setTo f n (blank r)
-set-registers f n fits r page ok = go (isGrey f) refl
+pub set-leads : (f n : ℕ) → SetFits f n → (r : Registers) → r .h ≤ 4 → allowedRegisters r ≡ true → Setting f n r
+set-leads f n fits r page ok = go (isGrey f) refl
   where
-    go : (b : Bool) → isGrey f ≡ b → blank (commanded (setCommands f (setTo f n (blank r))) r) ≡ setTo f n (blank r)
+    go : (b : Bool) → isGrey f ≡ b → Setting f n r
     go false e = set-simple f n fits e (not-apart f (fits .not-page) (fits .not-x) (fits .not-y) e) r page ok
     go true e =
         let b = grey-bounds f e in
         let up : GS0 + (f - GS0) ≡ f = omega (arith, b .0) in
         let lk : f - GS0 < 4 = omega (arith, b .0, b .1) in
         let ln : n ≤ 63 = subst (λ (x : ℕ). n ≤ x) (ap (λ (g : ℕ). getD limits g 0) (sym up) ∙ grey-limit (f - GS0) lk) (fits .value) in
-        subst (λ (g : ℕ). blank (commanded (setCommands g (setTo g n (blank r))) r) ≡ setTo g n (blank r)) up (set-grey (f - GS0) n lk ln r page)
-
-bytes-append : (xs ys : List ℕ) → Bytes xs → Bytes ys → Bytes (xs ++ ys)
-bytes-append [] ys a b = b
-bytes-append (x ∷ xs) ys a b = (a .0, bytes-append xs ys (a .1) b)
-
--- the page of a row that there is
-enter-bytes : (q : ℕ) → q ≤ 4 → Bytes (enter q)
-enter-bytes q h = go (eqb q 0)
-  where
-    go : (b : Bool) → Bytes (cond b [] ((8 + q) ∷ []))
-    go true = tt
-    go false = (omega arith, tt)
-
-leave-bytes : (p : ℕ) → Bytes (leave p)
-leave-bytes p = go (eqb p 0)
-  where
-    go : (b : Bool) → Bytes (cond b [] (1 ∷ []))
-    go true = tt
-    go false = (omega arith, tt)
-
-simple-bytes : (f : ℕ) → SimpleRow f → (t : Registers) → allowedRegisters t ≡ true → Bytes (1 ∷ rowBytes (rowFor f ∷ []) t)
-simple-bytes f row t ok = (
-  omega arith,
-  bytes-append (enter (pageOf (rowFor f))) (rowByte (rowNo (rowFor f)) t ∷ leave (pageOf (rowFor f))) (enter-bytes (pageOf (rowFor f)) (row .page))
-      (row-byte (rowFor f) (row .listed) t (simple-fits (partsFor f) (row .registers-only) t ok), leave-bytes (pageOf (rowFor f))),
-)
+        subst (λ (g : ℕ). Setting g n r) up (set-grey (f - GS0) n lk ln r page)
 
 pub set-bytes : (f n : ℕ) → SetFits f n → (r : Registers) → r .h ≤ 4 → allowedRegisters r ≡ true → Bytes (setCommands f (setTo f n (blank r)))
-set-bytes f n fits r page ok = go (isGrey f) refl
-  where
-    go : (b : Bool) → isGrey f ≡ b → Bytes (setCommands f (setTo f n (blank r)))
-    go false e =
-        subst Bytes (sym (plain-bytes f n e (blank r)))
-        (simple-bytes f (simple-row f (fits .place) (not-apart f (fits .not-page) (fits .not-x) (fits .not-y) e)) (put f n (blank r))
-        (put-allowed f n (blank r) (fits .value) (blank-allowed r ok)))
-    go true e =
-        let b = grey-bounds f e in
-        let up : GS0 + (f - GS0) ≡ f = omega (arith, b .0) in
-        let lk : f - GS0 < 4 = omega (arith, b .0, b .1) in
-        let ln : n ≤ 63 = subst (λ (x : ℕ). n ≤ x) (ap (λ (g : ℕ). getD limits g 0) (sym up) ∙ grey-limit (f - GS0) lk) (fits .value) in
-        subst (λ (g : ℕ). Bytes (setCommands g (setTo g n (blank r)))) up
-        (subst Bytes
-        (sym (ap (setCommands (GS0 + (f - GS0))) (grey-target (f - GS0) n lk ln r page) ∙ grey-bytes (f - GS0) n lk ln r page (put (GS0 + (f - GS0)) n (put GR (f - GS0) (blank r)))))
-        (grey-all-bytes (f - GS0) n lk ln r page))
+set-bytes f n fits r page ok = leads-bytes (set-leads f n fits r page ok .leads)
 
 -- the events of a set, from any state that shows q
 pub set-plays :
@@ -302,6 +282,6 @@ set-plays f n fits q m pins k s shows =
         let bs = setCommands f (setTo f n (blank r)) in
         let page = seen-page r m pins (length (message pins bs) + k) s see in
         let ok = seen-allowed r m pins (length (message pins bs) + k) s see in
-        plays-weaken (message pins bs) (Sees (commanded bs r) m pins k) (Shows (setTo f n (blank r)) m pins k) s
-        (λ t after. record { full = commanded bs r; sees = after; same = set-registers f n fits r page ok })
-        (message-plays bs r m pins k (set-bytes f n fits r page ok) s see)
+        let done = set-leads f n fits r page ok in
+        plays-weaken (message pins bs) (Sees (done .after) m pins k) (Shows (setTo f n (blank r)) m pins k) s
+        (λ t seen. record { full = done .after; sees = seen; same = done .shows }) (message-plays bs r (done .after) m pins k (done .leads) s see)
