@@ -1,20 +1,19 @@
 -- What a set does, place by place and row by row.
-use mathlib.Core.Bool.{Bool, true, false, cond, _&&_}
-use mathlib.Core.List.{List, [], _∷_, _++_}
+use mathlib.Core.Bool.{Bool, true, false, cond}
+use mathlib.Core.List.{[], _∷_, _++_}
 use mathlib.Core.Path.{_≡_, refl, sym, ap, _∙_, subst}
-use Prim.Native.Nat.{ℕ, _+_, _-_, _*_, _^_, _≤_, _<_}
+use Prim.Native.Nat.{ℕ, _+_, _-_, _≤_, _<_}
 use native.Mathlib.Decide.{ℕ-discrete}
 use native.Mathlib.Omega.{arith}
 use borrow.Author.Tests.{leb-true, eq-eqb, ne-eqb}
 use lib.Dec.{T, eqb, leb, eqb→eq, leb→le}
-use lib.ListN.{getD, length, List·getD-eq-default, List·getD-map}
+use lib.ListN.{getD, length, List·getD-map}
 use Rattle.registers.specs.declared.Registers.{Registers}
 use Rattle.registers.specs.Data.{pages}
-use Rattle.registers.specs.Encode.{held, rowByte, rowFor, isGrey}
+use Rattle.registers.specs.Encode.{rowByte, rowFor, isGrey}
 use Rattle.registers.specs.Places.{GR, GS0, GS3}
 use Rattle.registers.specs.Record.{put}
 use Rattle.registers.specs.Table.{Row, rows, noRow}
-use Rattle.registers.specs.Table.Target.{selected}
 use Rattle.registers.proofs.Below.{allBelow, below-at, and-right}
 use Rattle.registers.proofs.Within.{both-left}
 use Rattle.compiler.specs.Plain.{setTo}
@@ -36,53 +35,6 @@ module _ (f n : ℕ) (r : Registers) where
   unfolding setTo
   other-set x g h = rw g h
 
--- ---- the row that sets a register
-
-abbrev rowNumbers : List ℕ
-rowNumbers =
-    1 ∷ 3 ∷ 3 ∷ 3 ∷ 6 ∷ 6 ∷ 7 ∷ 7 ∷ 7 ∷ 21 ∷ 21 ∷ 8 ∷ 9 ∷ 10 ∷ 11 ∷ 11 ∷ 12 ∷ 13 ∷ 14 ∷ 15 ∷ 16
-    ∷ 17 ∷ 17 ∷ 17 ∷ 17 ∷ 18 ∷ 18 ∷ 19 ∷ 19 ∷ []
-
-all-rows : T (allBelow 29 (λ f. eqb (getD rowNumbers f 0) (rowFor f)))
-all-rows = tt
-
-pub row-for-at : (f : ℕ) → f < 29 → getD rowNumbers f 0 ≡ rowFor f
-row-for-at f h = eqb→eq (getD rowNumbers f 0) (rowFor f) (below-at 29 (λ f. eqb (getD rowNumbers f 0) (rowFor f)) all-rows f h)
-
-no-rows : T (allBelow 227 (λ k. eqb 21 (rowFor (k + 29))))
-no-rows = tt
-
-pub no-row-for : (f : ℕ) → f < 256 → 29 ≤ f → 21 ≡ rowFor f
-no-row-for f h l =
-    eqb→eq 21 (rowFor (f - 29 + 29)) (below-at 227 (λ k. eqb 21 (rowFor (k + 29))) no-rows (f - 29) (omega arith))
-    ∙ ap rowFor back
-  where
-    back : f - 29 + 29 ≡ f
-    back = omega arith
-
--- ---- a row's byte
-
-pub by-row : (i k : ℕ) (t : Registers) (x : ℕ) → i ≡ k → x ≡ rowByte (getD rows k noRow) t → x ≡ rowByte (getD rows i noRow) t
-by-row i k t x at h = h ∙ ap (λ (j : ℕ). rowByte (getD rows j noRow) t) (sym at)
-
-pub by-no-row : (i : ℕ) (t : Registers) → 21 ≤ i → 0 ≡ rowByte (getD rows i noRow) t
-by-no-row i t h = sym (ap (λ (w : Row). rowByte w t) (List·getD-eq-default rows noRow h))
-
-pub one-byte : (x n a : ℕ) → x ≡ n + a → x ≡ n + (a * 2 ^ 0 + 0)
-one-byte x n a h = omega arith
-
-pub two-byte : (x n a b : ℕ) → x ≡ n + a * 2 + b → x ≡ n + (a * 2 ^ 1 + (b * 2 ^ 0 + 0))
-two-byte x n a b h = omega arith
-
-pub three-byte : (x n a b d : ℕ) → x ≡ n + a * 4 + b * 2 + d → x ≡ n + (a * 2 ^ 2 + (b * 2 ^ 1 + (d * 2 ^ 0 + 0)))
-three-byte x n a b d h = omega arith
-
-pub three-up-byte : (x n a b d : ℕ) → x ≡ n + a * 8 + b * 4 + d * 2 → x ≡ n + (a * 2 ^ 3 + (b * 2 ^ 2 + (d * 2 ^ 1 + 0)))
-three-up-byte x n a b d h = omega arith
-
-pub grey-byte : (x a : ℕ) (t : Registers) → x ≡ 128 + a → a ≡ held selected t → x ≡ 128 + (held selected t * 2 ^ 0 + 0)
-grey-byte x a t h e = one-byte x 128 (held selected t) (h ∙ ap (λ (n : ℕ). 128 + n) e)
-
 -- ---- the commands of a set
 
 pub page-at : (x i : ℕ) → x ≡ getD pages i 0 → x ≡ pageOf i
@@ -97,7 +49,9 @@ grey-row f h g =
     (subst (λ (b : Bool). T (cond b (eqb (rowFor f) 17) true)) g
     (below-at 29 (λ f. cond (isGrey f) (eqb (rowFor f) 17) true) grey-rows f h))
 
-pub grey-commands : (f s l : ℕ) (t : Registers) → isGrey f ≡ true → s ≡ rowByte (getD rows 16 noRow) t → l ≡ rowByte (getD rows 17 noRow) t → 1 ∷ 11 ∷ s ∷ l ∷ 1 ∷ [] ≡ setCommands f t
+pub grey-commands :
+    (f s l : ℕ) (t : Registers) → isGrey f ≡ true → s ≡ rowByte (getD rows 16 noRow) t → l ≡ rowByte (getD rows 17 noRow) t
+    → 1 ∷ 11 ∷ s ∷ l ∷ 1 ∷ [] ≡ setCommands f t
 grey-commands f s l t g e d =
     ap (λ (n : ℕ). 1 ∷ 11 ∷ n ∷ l ∷ 1 ∷ []) e
     ∙ ap (λ (n : ℕ). 1 ∷ 11 ∷ rowByte (getD rows 16 noRow) t ∷ n ∷ 1 ∷ []) d

@@ -6,3 +6,5 @@ pub mod Parts
 pub mod Put
 pub mod Encode
 pub mod Refusals
+pub mod RowByte
+pub mod CodeWays

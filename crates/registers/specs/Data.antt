@@ -1,6 +1,10 @@
 -- The bit table and the instruction table as flat lists of numbers, computed from `registers` and `rows`: what the code holds as arrays.
 use mathlib.Core.List.{List, [], _∷_, _++_, map}
-use Prim.Native.Nat.{ℕ, suc, _-_}
+use mathlib.Core.Bool.{cond}
+use Prim.Native.Nat.{ℕ, zero, suc, _+_, _-_, _*_, _%_, _^_}
+use lib.Dec.{eqb}
+use lib.ListN.{getD}
+use Rattle.registers.specs.Places.{GR, GS0}
 use Rattle.registers.specs.Record.{Register, registers}
 use Rattle.registers.specs.Table.{Target, Part, Row, rows, opened}
 use Rattle.registers.specs.Table.Target.{register, bounded, selected, unheld}
@@ -48,3 +52,22 @@ partLows = map (λ (p : Part). p .low) (partsOf rows)
 
 abbrev pub partWidths : List ℕ
 partWidths = map (λ (p : Part). p .width) (partsOf rows)
+
+-- ---- a row's byte from those lists, the registers being a list too
+
+-- the register that a target stands for: the one at its place, the grey one that GR selects, or none
+abbrev pub placeOf : ℕ → List ℕ → ℕ
+placeOf n v = cond (eqb n 29) (GS0 + getD v GR 0 % 4) n
+
+-- what part k adds to the byte of row i
+abbrev pub shareOf : List ℕ → ℕ → ℕ → ℕ
+shareOf v i k = cond (eqb (getD partRows k 0) i) (getD v (placeOf (getD partTargets k 0) v) 0 * 2 ^ getD partLows k 0) 0
+
+-- what n parts from part k on add to it
+abbrev pub sharesOf : List ℕ → ℕ → ℕ → ℕ → ℕ
+sharesOf v i k zero = 0
+sharesOf v i k (suc n) = shareOf v i k + sharesOf v i (suc k) n
+
+-- the byte of row i: its code, and what all parts add
+unfoldable pub byteOf : List ℕ → ℕ → ℕ
+byteOf v i = getD codes i 0 + sharesOf v i 0 29

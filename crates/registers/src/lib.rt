@@ -3,6 +3,7 @@ ghost use mathlib.Core.Path.{_≡_};
 ghost use Rattle.registers.specs.Record.{resetChip, allowedRegisters, allowed, inPhase, withRegisters};
 
 mod bytes;
+pub mod encoding;
 mod entry;
 pub mod limits;
 pub mod names;

@@ -17,10 +17,16 @@ page-of-requires : tie.Need-page-of-requires
 page-of-requires c κs = search needs
 
 returns-2 : tie.Need-returns-2
-returns-2 c = page-0-count (c .before .before .before .before .before .args .field) _ _ (sym (c .before .before .before .before .is-grey .ensures) ∙ c .before .before .before .if1 .left) (c .before .before .row-for .ensures) (c .before .page-of .ensures) (c .if2 .taken)
+returns-2 c =
+    let tested = c .before .before .before in
+    let other = sym (tested .before .is-grey .ensures) ∙ tested .if1 .left in
+    page-0-count (tested .before .before .args .field) _ _ other (c .before .before .row-for .ensures) (c .before .page-of .ensures) (c .if2 .taken)
 
 returns-3 : tie.Need-returns-3
-returns-3 c = page-count (c .before .before .before .before .before .args .field) _ _ (sym (c .before .before .before .before .is-grey .ensures) ∙ c .before .before .before .if1 .left) (c .before .before .row-for .ensures) (c .before .page-of .ensures) (c .if2 .left)
+returns-3 c =
+    let tested = c .before .before .before in
+    let other = sym (tested .before .is-grey .ensures) ∙ tested .if1 .left in
+    page-count (tested .before .before .args .field) _ _ other (c .before .before .row-for .ensures) (c .before .page-of .ensures) (c .if2 .left)
 
 pub commands-count-spec : {M : Type 1} → statement M
 commands-count-spec =

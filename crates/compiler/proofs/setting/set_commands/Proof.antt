@@ -1,7 +1,7 @@
-use mathlib.Core.Path.{sym, _∙_}
+use mathlib.Core.Path.{refl, sym, _∙_}
 use native.Mathlib.Omega.{arith}
-use Rattle.compiler.proofs.Settings.{grey-commands, page-0-commands, page-commands}
 use borrow.Author.Needs.{needs}
+use Rattle.compiler.proofs.Settings.{grey-commands, page-0-commands, page-commands}
 use Rattle.compiler.proofs.setting.set_commands.Statement.{statement}
 use Rattle.compiler.proofs.setting.set_commands.Tie as tie
 
@@ -15,11 +15,11 @@ row-byte-requires-2 : tie.Need-row-byte-requires-2
 row-byte-requires-2 c κs = search needs
 
 returns : tie.Need-returns
-returns c = (
-  grey-commands (c .before .before .before .before .args .field) _ _ (c .before .before .before .before .args .target) (sym (c .before .before .before .is-grey .ensures) ∙ c .before .before .if1 .taken)
-      (c .before .row-byte .ensures) (c .row-byte2 .ensures),
-  omega arith,
-)
+returns c =
+    let tested = c .before .before in
+    let given = tested .before .before .args in
+    let grey = sym (tested .before .is-grey .ensures) ∙ tested .if1 .taken in
+    (grey-commands (given .field) _ _ (given .target) grey (c .before .row-byte .ensures) (c .row-byte2 .ensures), omega arith)
 
 row-for-requires : tie.Need-row-for-requires
 row-for-requires c κs = search needs
@@ -31,24 +31,32 @@ row-byte-requires-3 : tie.Need-row-byte-requires-3
 row-byte-requires-3 c κs = search needs
 
 returns-2 : tie.Need-returns-2
-returns-2 c = (
-  page-0-commands (c .before .before .before .before .before .before .args .field) _ _ (c .before .before .before .before .before .before .args .target)
-      (sym (c .before .before .before .before .before .is-grey .ensures) ∙ c .before .before .before .before .if1 .left)
-      _ (c .before .before .before .row-for .ensures) (c .before .before .page-of .ensures) (c .before .row-byte3 .ensures) (c .if2 .taken),
-  omega arith,
-)
+returns-2 c =
+    let at-page = c .before .before in
+    let at-row = at-page .before in
+    let given = at-row .before .before .before .args in
+    let other = sym (at-row .before .before .is-grey .ensures) ∙ at-row .before .if1 .left in (
+      page-0-commands (given .field) _ _ (given .target) other
+          _ (at-row .row-for .ensures) (at-page .page-of .ensures) (c .before .row-byte3 .ensures) (c .if2 .taken),
+      omega arith,
+    )
 
-one-requires : tie.Need-one-requires
-one-requires c κs = search needs
+cast-enter : tie.Need-cast-enter
+cast-enter c = search needs
+
+add-enter : tie.Need-add-enter
+add-enter c = search needs
 
 returns-3 : tie.Need-returns-3
-returns-3 c = (
-  page-commands (c .before .before .before .before .before .before .before .args .field) _ _ (c .before .before .before .before .before .before .before .args .target)
-      (sym (c .before .before .before .before .before .before .is-grey .ensures) ∙ c .before .before .before .before .before .if1 .left)
-      _ (c .before .before .before .before .row-for .ensures) (c .before .before .before .page-of .ensures) (c .before .before .row-byte3 .ensures)
-      _ (c .one .ensures) (c .before .if2 .left),
-  omega arith,
-)
+returns-3 c =
+    let at-page = c .before .before in
+    let at-row = at-page .before in
+    let given = at-row .before .before .before .args in
+    let other = sym (at-row .before .before .is-grey .ensures) ∙ at-row .before .if1 .left in (
+      page-commands (given .field) _ _ (given .target) other
+          _ (at-row .row-for .ensures) (at-page .page-of .ensures) (c .before .row-byte3 .ensures) _ refl (c .if2 .left),
+      omega arith,
+    )
 
 pub set-commands-spec : {M : Type 1} → statement M
 set-commands-spec =
@@ -62,5 +70,6 @@ set-commands-spec =
     page-of-requires
     row-byte-requires-3
     returns-2
-    one-requires
+    cast-enter
+    add-enter
     returns-3)

@@ -1,10 +1,10 @@
-use Rattle.compiler.proofs.Settings.{no-row-for, row-for-at}
 use borrow.Author.Needs.{needs}
-use Rattle.compiler.proofs.setting.row_for.Statement.{statement}
-use Rattle.compiler.proofs.setting.row_for.Tie as tie
+use Rattle.registers.proofs.RowByte.{row-for-at, no-row-for}
+use Rattle.registers.proofs.encoding.row_for.Statement.{statement}
+use Rattle.registers.proofs.encoding.row_for.Tie as tie
 
 returns : tie.Need-returns
-returns c = no-row-for (c .before .args .field) (search needs) (c .if1 .taken)
+returns c = no-row-for (c .before .args .register) (c .if1 .taken)
 
 mul-result : tie.Need-mul-result
 mul-result c = search needs
@@ -13,7 +13,7 @@ array-read-result : tie.Need-array-read-result
 array-read-result c = search needs
 
 returns-2 : tie.Need-returns-2
-returns-2 c = row-for-at (c .before .args .field) (search needs)
+returns-2 c = row-for-at (c .before .args .register) (search needs)
 
 pub row-for-spec : {M : Type 1} → statement M
 row-for-spec = tie.close (tie.spec returns mul-result array-read-result returns-2)
