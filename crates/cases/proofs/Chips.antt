@@ -1,7 +1,7 @@
 -- Wrong chips are shut out: one computed test over the table.
 use lib.Dec.{T}
 use Rattle.cases.specs.Cited.{allowed, rowAt, commandOf, storedOf, placeOf, nextAddress, refusalOf, applied, accepted, stepOf, runOf}
-use Rattle.cases.specs.Cited.{entryRefusal, eventRefusal, isAddressed, phaseAfterAddress, phaseAfterLastRead, acknowledge, isAcknowledged, controlled, readByte, pulsed, sensed, counted, columnOf, runFrom}
+use Rattle.cases.specs.Cited.{entryRefusal, eventRefusal, isAddressed, phaseAfterAddress, phaseAfterLastRead, acknowledge, isAcknowledged, controlled, readByte, pulsed, sensed, counted, columnOf, runFrom, lastAnswer}
 use Rattle.cases.specs.Behaviour.{chip}
 use Rattle.cases.specs.Chips.{busEvents, commandBytes, displayData, refusalsAndRuns, chipRows}
 use Rattle.cases.specs.Observed.{TellsApart}
@@ -12,7 +12,7 @@ use Rattle.cases.proofs.Table.{each-row}
 all-tell : T (eachPasses (tells chip) chipRows)
 unfolding chip chipRows busEvents commandBytes displayData refusalsAndRuns
     stepOf refusalOf accepted applied allowed commandOf rowAt storedOf placeOf nextAddress runOf
-    entryRefusal eventRefusal isAddressed phaseAfterAddress phaseAfterLastRead acknowledge isAcknowledged controlled readByte pulsed sensed counted columnOf runFrom
+    entryRefusal eventRefusal isAddressed phaseAfterAddress phaseAfterLastRead acknowledge isAcknowledged controlled readByte pulsed sensed counted columnOf runFrom lastAnswer
 all-tell = tt
 
 pub wrong-chips : EachRow (TellsApart chip) chipRows

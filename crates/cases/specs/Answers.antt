@@ -1,4 +1,5 @@
--- Wrong answers of a compiler: what a chosen record, text and output give, and what a wrong compiler would give.
+-- Wrong answers of a compiler: what a chosen record, text and output give, and what a wrong compiler would give. Document 01 shuts out by name one that
+-- refuses everything, and invented lengths and clocks.
 use mathlib.Core.List.{List, [], _∷_}
 use Prim.Native.Nat.{ℕ}
 use Prim.Native.String.{String}

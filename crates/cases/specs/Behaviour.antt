@@ -2,17 +2,18 @@
 use mathlib.Core.Bool.{cond}
 use mathlib.Core.List.{List, [], _∷_}
 use Prim.Native.Nat.{ℕ, _+_, _*_}
-use Rattle.cases.specs.Cited.{getD, values, State, After, answerNumber, stepOf, Outcome, runOf}
+use Rattle.cases.specs.Cited.{getD, values, State, Answer, After, answerNumber, stepOf, Outcome, runOf, lastAnswer}
 
 -- ---- a chip, and what can be seen of it
 
--- what one event does, and what a run does
+-- what one event does, what a run does, and how its last event is answered
 pub record Behaviour : Type 0 where
   pub step : ℕ → State → After
   pub run : List ℕ → State → Outcome
+  pub last : List ℕ → State → Answer
 
 unfoldable pub chip : Behaviour
-chip = record { step = stepOf; run = runOf }
+chip = record { step = stepOf; run = runOf; last = lastAnswer }
 
 abbrev pub register : ℕ → State → ℕ
 register f s = getD (values (s .chip .registers)) f 0
@@ -55,6 +56,10 @@ runDone s es b = b .run es s .done
 
 abbrev pub runRefusal : State → List ℕ → Behaviour → ℕ
 runRefusal s es b = b .run es s .refusal
+
+-- the answer to the last event that was tried, as a number
+abbrev pub runAnswer : State → List ℕ → Behaviour → ℕ
+runAnswer s es b = answerNumber (b .last es s)
 
 -- ---- events and answers by name
 

@@ -1,8 +1,9 @@
--- Wrong chips: what the events of a chosen state do, and what a wrong chip would make of them.
+-- Wrong chips: what events do to a chosen state, and what a wrong chip would make of them. Document 01's classroom errors are among them, and the chips
+-- that it shuts out by name: one constant acknowledge, one that stays idle, one that refuses everything, a run of the first event only.
 use mathlib.Core.List.{List, [], _∷_, _++_}
 use Prim.Native.Nat.{ℕ, _+_, _-_, _^_}
 use Rattle.cases.specs.Cited.{H, DO, PD, «V», D, MX, X, Y, SM, GR, GS0, GS2, GS3, DOF, DM, EC}
-use Rattle.cases.specs.Behaviour.{Behaviour, register, count, status, lastRs, cell, writer, leave, answer, runLeaves, runDone, runRefusal}
+use Rattle.cases.specs.Behaviour.{Behaviour, register, count, status, lastRs, cell, writer, leave, answer, runLeaves, runDone, runRefusal, runAnswer}
 use Rattle.cases.specs.Behaviour.{START, STOP, READ, READLAST, RESET, sensor, nothing, acknowledged, notAcknowledged, byteRead, commands, displayBytes}
 use Rattle.cases.specs.Observed.{Observation, _gives_not_}
 use Rattle.cases.specs.Start.{_is_, upon, counting, lent, withPins}
@@ -182,6 +183,10 @@ refusalsAndRuns =
     -- 4 at the wrong event
     ∷ runDone (counting (2 ^ 64 - 2) (upon [])) (START ∷ STOP ∷ []) gives 1 not 0
     ∷ runRefusal (counting (2 ^ 64 - 2) (upon [])) (START ∷ STOP ∷ []) gives 4 not 0
+    -- the answer to an earlier event, to a refused one, at a refused entry
+    ∷ runAnswer (upon []) (START ∷ 0x78 ∷ []) gives acknowledged not nothing
+    ∷ runAnswer (upon []) (START ∷ 261 ∷ 0x78 ∷ []) gives 3 not nothing
+    ∷ runAnswer (upon (X is 101 ∷ [])) [] gives 2 not nothing
     ∷ []
 
 -- all of them

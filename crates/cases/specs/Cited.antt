@@ -34,7 +34,7 @@ unfoldable pub use Rattle.display.specs.Display.{storedOf, columnOf, placeOf, n
 unfoldable pub use Rattle.engine.specs.Event.{isAcknowledged}
 unfoldable pub use Rattle.engine.specs.Phases.{isAddressed, phaseAfterAddress, phaseAfterLastRead}
 unfoldable pub use Rattle.engine.specs.Step.{entryRefusal, eventRefusal, refusalOf, acknowledge, controlled, readByte, pulsed, sensed, counted, applied, accepted, stepOf}
-unfoldable pub use Rattle.engine.specs.Run.{runFrom, runOf}
+unfoldable pub use Rattle.engine.specs.Run.{runFrom, runOf, lastAnswer}
 unfoldable pub use Rattle.chip.specs.Plays.{Plays}
 unfoldable pub use Rattle.text.specs.Decimal.{numberOf}
 unfoldable pub use Rattle.lists.specs.Line.{lineOf}
