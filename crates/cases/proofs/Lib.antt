@@ -6,3 +6,4 @@ pub mod Observed
 pub mod Chips
 pub mod Glasses
 pub mod Answers
+pub mod Captures

@@ -8,3 +8,4 @@ pub mod Behaviour
 pub mod Chips
 pub mod Glasses
 pub mod Answers
+pub mod Captures
