@@ -2,14 +2,14 @@
 use lib.Dec.{T}
 use Rattle.cases.specs.Cited.{allowed, compileOf, readingOf, readingFrom, lineOf, numberOf, stream, lineEvents, setTo}
 use Rattle.cases.specs.Answers.{answerRows}
-use Rattle.cases.specs.Observed.{TellsApart}
+use Rattle.cases.specs.Observed.{Distinguishes}
 use Rattle.cases.specs.Table.{EachRow, eachPasses}
-use Rattle.cases.proofs.Observed.{tells, tells-apart}
+use Rattle.cases.proofs.Observed.{passes, passes-distinguishes}
 use Rattle.cases.proofs.Table.{each-row}
 
-all-tell : T (eachPasses (tells compileOf) answerRows)
+all-pass : T (eachPasses (passes compileOf) answerRows)
 unfolding answerRows allowed compileOf readingOf readingFrom lineOf numberOf stream lineEvents setTo
-all-tell = tt
+all-pass = tt
 
-pub wrong-answers : EachRow (TellsApart compileOf) answerRows
-wrong-answers = each-row (TellsApart compileOf) (tells compileOf) (tells-apart compileOf) answerRows all-tell
+pub wrong-answers : EachRow (Distinguishes compileOf) answerRows
+wrong-answers = each-row (Distinguishes compileOf) (passes compileOf) (passes-distinguishes compileOf) answerRows all-pass

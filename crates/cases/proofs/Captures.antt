@@ -2,14 +2,14 @@
 use lib.Dec.{T}
 use Rattle.cases.specs.Cited.{allowed, rowAt, commandOf, storedOf, placeOf, nextAddress, refusalOf, applied, accepted, numberOf, pinsOf, replayOf}
 use Rattle.cases.specs.Captures.{captureRows}
-use Rattle.cases.specs.Observed.{TellsApart}
+use Rattle.cases.specs.Observed.{Distinguishes}
 use Rattle.cases.specs.Table.{EachRow, eachPasses}
-use Rattle.cases.proofs.Observed.{tells, tells-apart}
+use Rattle.cases.proofs.Observed.{passes, passes-distinguishes}
 use Rattle.cases.proofs.Table.{each-row}
 
-all-tell : T (eachPasses (tells replayOf) captureRows)
+all-pass : T (eachPasses (passes replayOf) captureRows)
 unfolding captureRows refusalOf accepted applied allowed commandOf rowAt storedOf placeOf nextAddress numberOf pinsOf replayOf
-all-tell = tt
+all-pass = tt
 
-pub wrong-replays : EachRow (TellsApart replayOf) captureRows
-wrong-replays = each-row (TellsApart replayOf) (tells replayOf) (tells-apart replayOf) captureRows all-tell
+pub wrong-replays : EachRow (Distinguishes replayOf) captureRows
+wrong-replays = each-row (Distinguishes replayOf) (passes replayOf) (passes-distinguishes replayOf) captureRows all-pass

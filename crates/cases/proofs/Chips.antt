@@ -4,16 +4,16 @@ use Rattle.cases.specs.Cited.{allowed, rowAt, commandOf, storedOf, place
 use Rattle.cases.specs.Cited.{entryRefusal, eventRefusal, isAddressed, phaseAfterAddress, phaseAfterLastRead, acknowledge, isAcknowledged, controlled, readByte, pulsed, sensed, counted, columnOf, runFrom, lastAnswer}
 use Rattle.cases.specs.Behaviour.{chip}
 use Rattle.cases.specs.Chips.{busEvents, commandBytes, displayData, refusalsAndRuns, chipRows}
-use Rattle.cases.specs.Observed.{TellsApart}
+use Rattle.cases.specs.Observed.{Distinguishes}
 use Rattle.cases.specs.Table.{EachRow, eachPasses}
-use Rattle.cases.proofs.Observed.{tells, tells-apart}
+use Rattle.cases.proofs.Observed.{passes, passes-distinguishes}
 use Rattle.cases.proofs.Table.{each-row}
 
-all-tell : T (eachPasses (tells chip) chipRows)
+all-pass : T (eachPasses (passes chip) chipRows)
 unfolding chip chipRows busEvents commandBytes displayData refusalsAndRuns
     stepOf refusalOf accepted applied allowed commandOf rowAt storedOf placeOf nextAddress runOf
     entryRefusal eventRefusal isAddressed phaseAfterAddress phaseAfterLastRead acknowledge isAcknowledged controlled readByte pulsed sensed counted columnOf runFrom lastAnswer
-all-tell = tt
+all-pass = tt
 
-pub wrong-chips : EachRow (TellsApart chip) chipRows
-wrong-chips = each-row (TellsApart chip) (tells chip) (tells-apart chip) chipRows all-tell
+pub wrong-chips : EachRow (Distinguishes chip) chipRows
+wrong-chips = each-row (Distinguishes chip) (passes chip) (passes-distinguishes chip) chipRows all-pass

@@ -2,14 +2,14 @@
 use lib.Dec.{T}
 use Rattle.cases.specs.Cited.{allowed, placeRefusal, glassRefusal, cellOf, glassOf}
 use Rattle.cases.specs.Glasses.{glass, glassRows}
-use Rattle.cases.specs.Observed.{TellsApart}
+use Rattle.cases.specs.Observed.{Distinguishes}
 use Rattle.cases.specs.Table.{EachRow, eachPasses}
-use Rattle.cases.proofs.Observed.{tells, tells-apart}
+use Rattle.cases.proofs.Observed.{passes, passes-distinguishes}
 use Rattle.cases.proofs.Table.{each-row}
 
-all-tell : T (eachPasses (tells glass) glassRows)
+all-pass : T (eachPasses (passes glass) glassRows)
 unfolding glass glassRows allowed placeRefusal glassRefusal cellOf glassOf
-all-tell = tt
+all-pass = tt
 
-pub wrong-glasses : EachRow (TellsApart glass) glassRows
-wrong-glasses = each-row (TellsApart glass) (tells glass) (tells-apart glass) glassRows all-tell
+pub wrong-glasses : EachRow (Distinguishes glass) glassRows
+wrong-glasses = each-row (Distinguishes glass) (passes glass) (passes-distinguishes glass) glassRows all-pass
