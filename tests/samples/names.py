@@ -6,7 +6,7 @@ import os
 import re
 from collections import Counter
 
-DOCUMENTS = ["README.md", "docs/LESSONS.md", "docs/STATEMENTS.md", "docs/ARCHITECTURE.md"]
+DOCUMENTS = ["README.md", *sorted(glob.glob("docs/*.md"))]
 STATEMENTS, ARCHITECTURE = "docs/STATEMENTS.md", "docs/ARCHITECTURE.md"
 LEFT_OUT = {"registers", "io", "os", "libc"}
 PLACES = ["crates", "tests", "include", "samples", "examples", "bench", ".ci"]
@@ -57,7 +57,8 @@ def unknown(path, words):
 
 def misplaced(path):
     """Names that are said to stand in a file and do not: `NAME`, `NAME` and `NAME` in `FILE`."""
-    for names, place in PLACED.findall(read(path)):
+    text = re.sub(r"\s*\n\s*", " ", read(path))
+    for names, place in PLACED.findall(text):
         words = set(WORD.findall(read(place))) if os.path.isfile(place) else set()
         for name in quoted(names):
             if re.fullmatch(WORD, name) and words and name not in words:
