@@ -181,10 +181,6 @@ static void compare_chip(void)
 
 static void compare_compilers(void)
 {
-    if (library.calls->compile == NULL) {
-        printf("compile: not in the library, left out\n");
-        return;
-    }
     fills_list(0);
     compare("compile, fills, V 0", "events", compile_all, 50, clear_both);
     fills_list(1);

@@ -14,9 +14,7 @@ static const struct calls library_calls = {
     .step = pcf8820_step,
     .run = pcf8820_run,
     .glass = pcf8820_glass,
-#ifdef LIBRARY_COMPILES
     .compile = pcf8820_compile,
-#endif
 };
 
 static const struct calls model_calls = {
