@@ -1,0 +1,45 @@
+"""Runs the parts of the tests against the independent model, and the example, as many at a time as there are cores.
+
+What they print stays in order. The first part that fails ends the others, and its output alone is printed.
+"""
+import concurrent.futures
+import os
+import signal
+import subprocess
+import sys
+import time
+
+# The longest first, so that the others run beside it.
+PARTS = ["tests/run mutants", "tests/run programs", "tests/run host", "tests/run compile", "tests/run samples",
+         "tests/run model", "tests/run glass", "tests/run worked", "examples/run"]
+running = set()
+
+
+def run(part):
+    """What a part prints, and a line with its seconds."""
+    began = time.monotonic()
+    process = subprocess.Popen(part.split(), stdout=subprocess.PIPE, stderr=subprocess.STDOUT, text=True,
+                               start_new_session=True)
+    running.add(process)
+    printed, _ = process.communicate()
+    running.discard(process)
+    if process.returncode != 0:
+        raise RuntimeError(f"{printed}gate: {part} FAILED")
+    return f"{printed}gate: {part} passed ({time.monotonic() - began:.0f} s)"
+
+
+def end_others():
+    for process in list(running):
+        os.killpg(process.pid, signal.SIGTERM)
+
+
+pool = concurrent.futures.ThreadPoolExecutor(len(os.sched_getaffinity(0)))
+parts = [pool.submit(run, part) for part in PARTS]
+done, _ = concurrent.futures.wait(parts, return_when=concurrent.futures.FIRST_EXCEPTION)
+failed = [part.exception() for part in done if part.exception()]
+if failed:
+    pool.shutdown(wait=False, cancel_futures=True)
+    end_others()
+    sys.exit(str(failed[0]))
+for part in parts:
+    print(part.result())
