@@ -11,7 +11,7 @@ import time
 
 # The longest first, so that the others run beside it.
 PARTS = ["tests/run mutants", "tests/run programs", "tests/run host", "tests/run compile", "tests/run samples",
-         "tests/run model", "tests/run glass", "tests/run worked", "examples/run"]
+         "tests/run model", "tests/run glass", "tests/run worked", "tests/run gate", "examples/run"]
 running = set()
 
 
