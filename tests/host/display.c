@@ -7,21 +7,12 @@ static const uint64_t columns[] = { 0, 1, 49, 50, 51, 99, 100 };
 static const uint64_t banks[] = { 0, 1, 8, 15, 16 };
 static const struct bus_phase data_phases[] = { { 4, 1 }, { 5, 1 } };
 
-enum { MODES = 8 };
-
-static void set_mode(uint64_t *words, unsigned mode)
-{
-    words[W_MX] = mode & 1;
-    words[W_V] = mode >> 1 & 1;
-    words[W_DO] = mode >> 2 & 1;
-}
-
 static void try_byte(unsigned mode, const struct bus_phase *phase, uint64_t x, uint64_t y,
                      uint16_t byte)
 {
     uint64_t words[MOST_WORDS];
     random_record(words);
-    set_mode(words, mode);
+    set_write_mode(words, mode);
     set_phase(words, phase);
     words[W_X] = x;
     words[W_Y] = y;
@@ -51,7 +42,7 @@ static void try_round(unsigned mode)
 {
     uint64_t words[MOST_WORDS];
     random_record(words);
-    set_mode(words, mode);
+    set_write_mode(words, mode);
     set_phase(words, &data_phases[1]);
     set_record(words);
     for (int i = 0; i < PLACES + 200; i++)
@@ -61,7 +52,7 @@ static void try_round(unsigned mode)
 void test_display(void)
 {
     theme("display");
-    for (unsigned mode = 0; mode < MODES; mode++) {
+    for (unsigned mode = 0; mode < WRITE_MODES; mode++) {
         lend_usual();
         for (size_t p = 0; p < sizeof data_phases / sizeof data_phases[0]; p++) {
             try_edges(mode, &data_phases[p]);

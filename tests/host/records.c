@@ -89,6 +89,13 @@ void set_phase(uint64_t *words, const struct bus_phase *phase)
     words[W_PHASE_RS] = phase->rs;
 }
 
+void set_write_mode(uint64_t *words, unsigned mode)
+{
+    words[W_MX] = mode & 1;
+    words[W_V] = mode >> 1 & 1;
+    words[W_DO] = mode >> 2 & 1;
+}
+
 uint16_t unlisted_event(void)
 {
     static const uint16_t edges[] = { 261, 511, 768, 1024, 65535 };

@@ -12,7 +12,7 @@ enum {
     W_PINS = 29, W_LAST_RS = 31, W_PHASE = 32, W_PHASE_RS = 33, W_COUNT = 34
 };
 
-enum { PHASES = 10, LAST_PAGE = 4 };
+enum { PHASES = 10, LAST_PAGE = 4, WRITE_MODES = 8 };
 
 /* Every phase, those that have an RS once with each. */
 struct bus_phase {
@@ -37,6 +37,9 @@ void full_record(uint64_t *words);
 void random_record(uint64_t *words);
 
 void set_phase(uint64_t *words, const struct bus_phase *phase);
+
+/* One of the mixtures of MX, V and DO: how display bytes are written. */
+void set_write_mode(uint64_t *words, unsigned mode);
 
 /* A number that is no bus event. */
 uint16_t unlisted_event(void);

@@ -5,8 +5,6 @@
 #include "records.h"
 #include "themes.h"
 
-enum { MODES = 8 };
-
 static const unsigned columns[] = { 0, 1, 50, 99, 100, 101 };
 static const unsigned banks[] = { 0, 1, 8, 15, 16, 17 };
 static const unsigned bytes[] = { 0, 1, 63, 64, 255, 256 };
@@ -19,17 +17,14 @@ enum {
 
 static struct text text;
 
-/* The mode 8 leaves V, MX and DO to chance. */
+/* The number WRITE_MODES leaves V, MX and DO to chance. */
 static void try_text(unsigned mode)
 {
     struct compiled compiled;
     uint64_t words[MOST_WORDS];
     random_record(words);
-    if (mode < MODES) {
-        words[W_MX] = mode & 1;
-        words[W_V] = mode >> 1 & 1;
-        words[W_DO] = mode >> 2 & 1;
-    }
+    if (mode < WRITE_MODES)
+        set_write_mode(words, mode);
     compare_list(words, &text, &compiled);
 }
 
@@ -90,14 +85,14 @@ static void try_random(int times)
     for (int i = 0; i < times; i++) {
         clear_text(&text);
         add_random_fill(&text);
-        try_text(MODES);
+        try_text(WRITE_MODES);
     }
 }
 
 void test_cells(void)
 {
     theme("cells");
-    for (unsigned mode = 0; mode < MODES; mode++) {
+    for (unsigned mode = 0; mode < WRITE_MODES; mode++) {
         if (!quick || mode % 3 == 0)
             try_places(mode);
         try_bytes(mode);

@@ -5,16 +5,7 @@
 #include "records.h"
 #include "themes.h"
 
-enum { MODES = 8 };
-
 static struct text text;
-
-static void set_mode(uint64_t *words, unsigned mode)
-{
-    words[W_MX] = mode & 1;
-    words[W_V] = mode >> 1 & 1;
-    words[W_DO] = mode >> 2 & 1;
-}
 
 /* What a number is worth: good, too wide for the field, or no number of a list. */
 static uint64_t refusal_of(size_t word, unsigned value)
@@ -30,11 +21,11 @@ static void try_value(size_t word, unsigned value)
     uint64_t refusal = refusal_of(word, value);
     clear_text(&text);
     add_set(&text, word, value);
-    for (unsigned mode = 0; mode < MODES; mode++)
+    for (unsigned mode = 0; mode < WRITE_MODES; mode++)
         for (uint64_t page = 0; page <= LAST_PAGE; page++)
             for (size_t p = 0; p < (quick ? 1 : PHASES); p++) {
                 random_record(words);
-                set_mode(words, mode);
+                set_write_mode(words, mode);
                 set_phase(words, &bus_phases[quick ? below(PHASES) : p]);
                 words[W_H] = page;
                 expect_refusal(words, &text, refusal, refusal != 0);
