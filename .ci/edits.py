@@ -8,31 +8,37 @@ log that gives no reason.
 
 An edit `over_the_wall_..` is one of the compiler's wall: there a crate or a body that can't be had is the fact.
 
+    edits.py            the edits of all crates
+    edits.py CRATE..    those of these crates, after `rt must-fail`
+
 Not looked at is whether the fact is false: a proof that does not fit the edited crate is refused in the same words.
 """
 import collections
 import pathlib
 import re
+import sys
 
 import project
 
 Refusal = collections.namedtuple("Refusal", "path line text")
 
 FACTS = [
+    ("two numbers are to be equal", r"the two types are `Path \S+ (\d+) (?!\1`)\d+`\s+\(expected\)"),
     ("values break the goal", r"`omega`: the goal does not follow .*the goal fails, at"),
     ("the proof has another number",
      r"where one has `(\d+)`\s+\(expected\).*? and the other has `(?!\1`)\d+`\s+\(found\)"),
     ("a computed test is not true", r"expected type `T \(.*but this has type `Prim\.Unit"),
-    ("no proof was found", r"it is not proved that|`search`: no proof of|`omega`: the goal does not follow"),
+    ("no proof was found",
+     r"it is not proved that|`search`: no proof of|`cc`: the equations do not join|`omega`: the goal does not follow"),
     ("a rewritten goal is left", r"give a proof of that as the last argument, `(simp|rw) L t`"),
     ("nothing to rewrite", r"`simp`: no equation of the list has an instance|`rw`: no occurrence of the path's"),
     ("the proof has another type",
      r"the two (types|sides) (first )?differ|the two types are|expected type `.*but this has type"),
 ]
-NO_FACT = r"has no `Need-|not in scope|does not use the library|cannot be unfolded here"
+NO_FACT = r"has no `Need-|is not a field of|not in scope|does not use the library|cannot be unfolded here"
 OTHER_FACT = r"expected type `[^`]*\bNeed-[^`]*`,?\s+but this has type `[^`]*\bNeed-"
 FOLLOWS = r"not admitted"
-WALL = r"does not use the library|cannot be unfolded here|does not unfold here"
+WALL = r"does not use the library|cannot be unfolded here|this module may not unfold it"
 
 RUST_ITEM = re.compile(r"^ *(?:pub )?(?:extern \"C\" )?(?:fn|const|static|struct|enum|impl) (\w+)", re.M)
 LEMMA_ITEM = re.compile(r"^(?!--|use |pub use |unfolding |mod |pub mod )"
@@ -50,17 +56,19 @@ def refusals(log, top):
     errors, notes = [], []
     for entry in re.split(r"\n(?! )", log):
         entry = entry.replace(f"{top}/", "")
-        if found := re.match(r"(\S+?):(\d+):\d+: error: ", entry):
-            errors.append(Refusal(found[1], int(found[2]), entry[found.end():]))
+        if found := re.match(r"(\S+?)(?::(\d+):\d+)?: error: ", entry):
+            errors.append(Refusal(found[1], int(found[2] or 0), entry[found.end():]))
         elif found := re.match(r"note: (\S+?):(\d+):\d+: (?=it is not proved)", entry):
             notes.append(Refusal(found[1], int(found[2]), entry[found.end():]))
     return [error for error in errors if not re.search(FOLLOWS, head(error))] + notes
 
 
 def items(text, pattern):
-    """The declarations of a file: (start, name, text), those that follow each other under one name as one."""
-    found = [(match.start(), match[1]) for match in pattern.finditer(text)]
-    heads = [head for i, head in enumerate(found) if i == 0 or found[i - 1][1] != head[1] or head[1] == "_"]
+    """The declarations of a file: (start, name, text), those that follow each other under one name as one.
+
+    A module without a name has its start as its name."""
+    found = [(match.start(), f"_{match.start()}" if match[1] == "_" else match[1]) for match in pattern.finditer(text)]
+    heads = [head for i, head in enumerate(found) if i == 0 or found[i - 1][1] != head[1]]
     ends = [start for start, _ in heads[1:]] + [len(text)]
     return [(start, name, text[start:end]) for (start, name), end in zip(heads, ends)]
 
@@ -147,9 +155,9 @@ def judged(crate, edit, copy, log):
     return kind, None
 
 
-def main():
+def main(names):
     kinds, faults, number = collections.Counter(), [], 0
-    for name in project.crates():
+    for name in names:
         crate = pathlib.Path("crates", name)
         for edit in sorted(crate.glob("must-fail/*.edit")):
             copy = pathlib.Path("target/must-fail", name, edit.stem).absolute()
@@ -159,10 +167,10 @@ def main():
             kinds[kind] += 1
             faults += [f"{edit}: {fault}"] if fault else []
     project.finish("edits", faults)
-    print("edits: " + ", ".join(f"{kind}: {kinds[kind]}" for kind in [*dict(FACTS), "the wall"]))
+    print("edits: " + ", ".join(f"{kind}: {number_of}" for kind, number_of in kinds.most_common()))
     print(f"edits: {number} must-fail edits, each first refused at a fact of what it edits; "
           "whether that fact is false or its proof unfit, a log does not tell")
 
 
 if __name__ == "__main__":
-    main()
+    main(sys.argv[1:] or project.crates())
