@@ -88,8 +88,10 @@ commandBytes =
     -- a row of page 1 taken in page 0, and not taken in its own
     ∷ leave (upon []) (commands (0b0000_0110 ∷ [])) (register D) gives 0 not 1
     ∷ leave (upon (H is 1 ∷ [])) (commands (0b0000_0110 ∷ [])) (register D) gives 1 not 0
-    -- PD dropped while V is set; PD with the bit of DO
+    -- PD dropped while V is set, and kept whatever the byte says of it; V not taken; PD with the bit of DO
     ∷ leave (upon (PD is 1 ∷ [])) (commands (0b0001_0110 ∷ [])) (register PD) gives 1 not 0
+    ∷ leave (upon (PD is 1 ∷ [])) (commands (0b0001_0010 ∷ [])) (register PD) gives 0 not 1
+    ∷ leave (upon (PD is 1 ∷ [])) (commands (0b0001_0110 ∷ [])) (register «V») gives 1 not 0
     ∷ leave (upon []) (commands (0b0001_1010 ∷ [])) (register PD) gives 0 not 1
     -- a level to grey register 0, whatever GR selects
     ∷ leave (upon (H is 3 ∷ GR is 2 ∷ [])) (commands (0b1010_0001 ∷ [])) (register GS2) gives 33 not 0
