@@ -1,6 +1,6 @@
 -- What is promised of numbers in text, which bytes are read as one and how one is printed, and of a whole text that has no room.
 use mathlib.Core.Bool.{Bool, true, false, cond}
-use mathlib.Core.List.{List}
+use mathlib.Core.List.{List, [], _∷_}
 use mathlib.Core.Logic.{_↔_}
 use mathlib.Core.Path.{_≡_, refl, sym, ap, _∙_}
 use Prim.Native.Nat.{ℕ, zero, suc, _≤_, _<_}
@@ -12,7 +12,7 @@ use lib.ListN.{length, take}
 use lib.Seq.{sets}
 use Rattle.text.specs.declared.Number.{Number}
 use Rattle.text.specs.declared.Number.the-variants.{Value, Malformed}
-use Rattle.text.specs.Decimal.{numberOf, fieldNumber, fieldValue}
+use Rattle.text.specs.Decimal.{numberOf, fieldNumbers}
 use Rattle.text.specs.declared.print.Written.{Written}
 use Rattle.text.specs.declared.print.Written.the-variants.{Text, Short, Refused}
 use Rattle.text.specs.Printed.{IsDecimalOf, decimalOf, writtenNumber, writtenLength, Outcome, outcome, wholeText}
@@ -25,24 +25,25 @@ abbrev pub IsNumber : List ℕ → ℕ → Type 0
 IsNumber s n = (n < 1000) × (s ≡ decimalOf n)
 
 -- 0 comes with the value exactly where the bytes are that number in decimal
-pub value-exactly : (s : List ℕ) (n : ℕ) → ((fieldNumber (numberOf s) ≡ 0) × (fieldValue (numberOf s) ≡ n)) ↔ IsNumber s n
-value-exactly s n = (λ e. there (numberOf s) refl (e .0) (e .1), back)
+pub value-exactly : (s : List ℕ) (n : ℕ) → (fieldNumbers (numberOf s) ≡ 0 ∷ n ∷ []) ↔ IsNumber s n
+value-exactly s n = (there (numberOf s) refl, λ h. ap fieldNumbers (ap numberOf (h .1 ∙ decimal-short n (h .0)) ∙ read-back n (h .0)))
   where
-    there : (x : Number) → numberOf s ≡ x → fieldNumber x ≡ 0 → fieldValue x ≡ n → IsNumber s n
-    there (Value m) e z v = let p = printed s n (e ∙ ap Value v) in (p .small, p .spelt ∙ sym (decimal-short _ (p .small)))
-    there Malformed e z v = absurd (omega (arith, z))
-
-    back : IsNumber s n → (fieldNumber (numberOf s) ≡ 0) × (fieldValue (numberOf s) ≡ n)
-    back h =
-        let e : numberOf s ≡ Value n = ap numberOf (h .1 ∙ decimal-short n (h .0)) ∙ read-back n (h .0) in
-        (ap fieldNumber e, ap fieldValue e)
+    there : (x : Number) → numberOf s ≡ x → fieldNumbers x ≡ 0 ∷ n ∷ [] → IsNumber s n
+    there (Value m) e v =
+        let same : m ≡ n = cc in
+        let p = printed s n (e ∙ ap Value same) in
+        (p .small, p .spelt ∙ sym (decimal-short n (p .small)))
+    there Malformed e v = let z : _≡_ {A = ℕ} 0 1 = cc in absurd (omega arith)
 
 -- 6 comes exactly where the bytes are no such number
-pub six-exactly : (s : List ℕ) → (fieldNumber (numberOf s) ≡ 6) ↔ ((n : ℕ) → IsNumber s n → ⊥)
-six-exactly s = (λ e n h. omega (arith, e, value-exactly s n .1 h .0), λ none. go (numberOf s) refl none)
+pub six-exactly : (s : List ℕ) → (fieldNumbers (numberOf s) ≡ 6 ∷ []) ↔ ((n : ℕ) → IsNumber s n → ⊥)
+six-exactly s = (λ e n h. not-both n (sym (value-exactly s n .1 h) ∙ e), λ none. go (numberOf s) refl none)
   where
-    go : (x : Number) → numberOf s ≡ x → ((n : ℕ) → IsNumber s n → ⊥) → fieldNumber x ≡ 6
-    go (Value m) e none = let p = printed s m e in absurd (none m (p .small, p .spelt ∙ sym (decimal-short _ (p .small))))
+    not-both : (n : ℕ) → 0 ∷ n ∷ [] ≡ 6 ∷ [] → ⊥
+    not-both n e = let z : _≡_ {A = ℕ} 0 1 = cc in omega arith
+
+    go : (x : Number) → numberOf s ≡ x → ((n : ℕ) → IsNumber s n → ⊥) → fieldNumbers x ≡ 6 ∷ []
+    go (Value m) e none = let p = printed s m e in absurd (none m (p .small, p .spelt ∙ sym (decimal-short m (p .small))))
     go Malformed e none = refl
 
 -- digits denote a number, of any size, exactly where they are how it is printed

@@ -33,15 +33,10 @@ numberOf (a ∷ b ∷ []) = twoDigits a b
 numberOf (a ∷ b ∷ c ∷ []) = threeDigits a b c
 numberOf (a ∷ b ∷ c ∷ d ∷ rest) = Malformed
 
--- document 01's number for the answer: a field that should be a number and is none makes its line malformed, 6; 0 is none
-abbrev pub fieldNumber : Number → ℕ
-fieldNumber (Value n) = 0
-fieldNumber Malformed = 6
-
--- the value that the field says; nothing is known of a malformed one
-abbrev pub fieldValue : Number → ℕ
-fieldValue (Value n) = n
-fieldValue Malformed = 0
+-- document 01's number for the answer, then its value: a field that should be a number and is none makes its line malformed, 6; 0 is none
+abbrev pub fieldNumbers : Number → List ℕ
+fieldNumbers (Value n) = 0 ∷ n ∷ []
+fieldNumbers Malformed = 6 ∷ []
 
 -- the other way: how a number below 1,000 is printed
 abbrev pub digit : ℕ → ℕ
