@@ -43,11 +43,11 @@ module _ (c0 c1 b0 b1 n : ℕ) where
 -- a value within its field's limit, or 7; no row is listed
 settable :
     (f n : ℕ) → ((n ≤ getD limits f 0) × (setWithin f n ≡ Good (Set f n))) ⊎ ((n ≤ getD limits f 0 → ⊥) × (setWithin f n ≡ Bad 7))
-settable f n = go (decLe n (getD limits f 0))
-  where
-    go : Dec (n ≤ getD limits f 0) → ((n ≤ getD limits f 0) × (setWithin f n ≡ Good (Set f n))) ⊎ ((n ≤ getD limits f 0 → ⊥) × (setWithin f n ≡ Bad 7))
-    go (yes l) = inl (l, rw (le-leb n (getD limits f 0) l))
-    go (no m) = inr (m, rw (lt-leb n (getD limits f 0) (omega arith)))
+settable f n =
+    elim (decLe n (getD limits f 0)) [
+      | yes l ↦ inl (l, rw (le-leb n (getD limits f 0) l))
+      | no m ↦ inr (m, rw (lt-leb n (getD limits f 0) (omega arith)))
+    ]
 
 answer-is : (s : Syntax) → Answered s (answerTo s)
 unfolding InRange RowReadable asLine

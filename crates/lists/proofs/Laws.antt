@@ -1,6 +1,6 @@
 -- What is promised of a drawing list's lines, in one place: read this file first, then specs/Syntax.antt. The work stands in the files beside
 -- it; what holds of a whole text, place by place, is in Positions.antt.
-use mathlib.Core.Path.{_≡_, refl, sym, ap, _∙_}
+use mathlib.Core.Path.{_≡_, sym, ap, _∙_}
 use mathlib.Core.List.{List, [], _∷_}
 use mathlib.Core.Logic.{_↔_}
 use Prim.Native.Nat.{ℕ, _≤_}

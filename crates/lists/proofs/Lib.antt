@@ -1,6 +1,5 @@
-pub mod CodeWays
 pub mod Ranges
-pub mod Words
+pub mod CodeWays
 pub mod Parsing
 pub mod Answers
 pub mod Laws

@@ -17,7 +17,8 @@ use Rattle.lists.specs.declared.LineAt.{LineAt}
 use Rattle.lists.specs.declared.Parsed.{Parsed}
 use Rattle.lists.specs.declared.Parsed.the-variants.{Good, Bad}
 use Rattle.lists.specs.Line.{lineOf}
-use Rattle.lists.specs.Lists.{newline, newlines, faulty, lines, alsoLine, withLine, lastPiece, piecesFrom, readingFrom, readingOf, lineAt, nextLine, newlineBefore}
+use Rattle.lists.specs.Lists.{newline, newlines, faulty, lines, alsoLine, withLine, lastPiece, piecesFrom, readingFrom, readingOf}
+use Rattle.lists.specs.Lists.{lineAt, nextLine, newlineBefore}
 use Rattle.lists.specs.Syntax.{Valid}
 use Rattle.lists.proofs.Laws.{valid}
 
@@ -200,7 +201,8 @@ reading-step text at n l = go (decLt end (length text))
 
     go :
         Dec (end < length text)
-        → piecesFrom n (split newline (drop at text)) ≡ withLine (lineAt text at .parsed) n (piecesFrom (n + 1) (split newline (drop (lineAt text at .next) text)))
+        → piecesFrom n (split newline (drop at text))
+        ≡ withLine (lineAt text at .parsed) n (piecesFrom (n + 1) (split newline (drop (lineAt text at .next) text)))
     go (yes h) =
         rw (← line-there text at end refl h _ refl, pieces-more text at newline end (omega arith) refl h)
         (first-of n (take (end - at) (drop at text)) (split newline (drop (end + 1) text)) (split-some newline (drop (end + 1) text)))

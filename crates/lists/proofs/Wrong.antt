@@ -9,9 +9,8 @@ use denote.Ref.{RefT}
 use Rattle.text.specs.Decimal.{numberOf}
 use Rattle.text.specs.Text.{bytes, findOf}
 use Rattle.lists.specs.declared.Line.the-variants.{Set}
-use Rattle.lists.specs.declared.Parsed.{Parsed}
 use Rattle.lists.specs.Line.{numbersOf, lineOf}
-use Rattle.lists.specs.Lists.{Reading, faulty, lines, readingFrom, readingOf, lineAt, nextLine, readerAt, lineHere, pastLine}
+use Rattle.lists.specs.Lists.{faulty, lines, readingFrom, readingOf, lineAt, nextLine, readerAt, lineHere, pastLine}
 
 -- ---- one line
 

@@ -1,4 +1,4 @@
-use Rattle.lists.proofs.Words.{no-fourth, no-fifth, five-values}
+use Rattle.lists.proofs.CodeWays.{no-fourth, no-fifth, five-values}
 use borrow.Author.Needs.{needs}
 use Rattle.lists.proofs.grammar.fill.Statement.{statement}
 use Rattle.lists.proofs.grammar.fill.Tie as tie

@@ -1,5 +1,5 @@
 use Rattle.text.specs.Text.{split}
-use Rattle.lists.proofs.Words.{fill-six, fill-other}
+use Rattle.lists.proofs.CodeWays.{fill-six, fill-other}
 use borrow.Author.Needs.{needs}
 use Rattle.lists.proofs.grammar.fill_line.Statement.{statement}
 use Rattle.lists.proofs.grammar.fill_line.Tie as tie

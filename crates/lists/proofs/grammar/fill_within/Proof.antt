@@ -8,9 +8,7 @@ use Rattle.lists.proofs.grammar.fill_within.Tie as tie
 fill-fits-requires : tie.Need-fill-fits-requires
 fill-fits-requires c κs = search needs
 
-within :
-    (c : tie.Then1)
-    → ValidFill (c .before .before .args .c0) (c .before .before .args .c1) (c .before .before .args .b0) (c .before .before .args .b1) (c .before .before .args .n)
+within : (c : tie.Then1) → let args = c .before .before .args in ValidFill (args .c0) (args .c1) (args .b0) (args .b1) (args .n)
 within c = tested-cells _ _ _ _ _ _ (c .before .fill-fits .ensures) (c .if1 .taken)
 
 cast-t7 : tie.Need-cast-t7

@@ -1,4 +1,4 @@
-use Rattle.lists.proofs.Words.{is-put, is-fill, is-set, is-none}
+use Rattle.lists.proofs.CodeWays.{is-put, is-fill, is-set, is-none}
 use borrow.Author.Needs.{needs}
 use Rattle.lists.proofs.grammar.line.Statement.{statement}
 use Rattle.lists.proofs.grammar.line.Tie as tie
@@ -16,7 +16,9 @@ put-line-requires : tie.Need-put-line-requires
 put-line-requires c κs = search needs
 
 returns : tie.Need-returns
-returns c = is-put _ _ (c .before .before .before .before .piece .ensures) _ (c .before .before .equal .ensures) (c .before .if1 .taken) _ (c .put-line .ensures)
+returns c =
+    let first = c .before .before in
+    is-put _ _ (first .before .before .piece .ensures) _ (first .equal .ensures) (c .before .if1 .taken) _ (c .put-line .ensures)
 
 slice-aggregate-equal-2 : tie.Need-slice-aggregate-equal-2
 slice-aggregate-equal-2 c = search needs

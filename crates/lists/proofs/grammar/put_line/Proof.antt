@@ -1,5 +1,5 @@
 use Rattle.text.specs.Text.{split}
-use Rattle.lists.proofs.Words.{put-four, put-other}
+use Rattle.lists.proofs.CodeWays.{put-four, put-other}
 use borrow.Author.Needs.{needs}
 use Rattle.lists.proofs.grammar.put_line.Statement.{statement}
 use Rattle.lists.proofs.grammar.put_line.Tie as tie

@@ -1,4 +1,4 @@
-use Rattle.lists.proofs.Words.{named, unnamed, field-place}
+use Rattle.lists.proofs.CodeWays.{field-set, no-field, field-place}
 use native.Mathlib.Omega.{arith}
 use borrow.Author.Needs.{needs}
 use Rattle.lists.proofs.grammar.set.Statement.{statement}
@@ -27,10 +27,10 @@ set-within-requires c κs = search needs
 returns-2 : tie.Need-returns-2
 returns-2 c =
     let asked = c .before .before in
-    named _ _ _ (asked .before .before .value .given .1) _ (asked .is-field .ensures) (c .before .if1 .taken) _ (c .set-within .ensures)
+    field-set _ _ _ (asked .before .before .value .given .1) _ (asked .is-field .ensures) (c .before .if1 .taken) _ (c .set-within .ensures)
 
 returns-3 : tie.Need-returns-3
-returns-3 c = unnamed _ _ _ (c .before .before .before .value .given .1) _ (c .before .is-field .ensures) (c .if1 .left)
+returns-3 c = no-field _ _ _ (c .before .before .before .value .given .1) _ (c .before .is-field .ensures) (c .if1 .left)
 
 pub set-spec : {M : Type 1} → statement M
 set-spec =

@@ -1,5 +1,5 @@
 use Rattle.text.specs.Text.{split}
-use Rattle.lists.proofs.Words.{set-three, set-other}
+use Rattle.lists.proofs.CodeWays.{set-three, set-other}
 use borrow.Author.Needs.{needs}
 use Rattle.lists.proofs.grammar.set_line.Statement.{statement}
 use Rattle.lists.proofs.grammar.set_line.Tie as tie
