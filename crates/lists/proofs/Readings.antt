@@ -1,4 +1,4 @@
--- Whole texts: what an accepted list gives for each of its lines, how many there are, and what a fault says.
+-- Whole texts: that the lines of an accepted list are valid, how many there are, and which numbers a fault has.
 use mathlib.Core.Path.{_≡_, refl, sym, subst}
 use mathlib.Core.List.{List, [], _∷_}
 use Prim.Native.Nat.{ℕ, suc, _+_, _≤_, _<_}
@@ -14,7 +14,7 @@ use Rattle.lists.specs.Lists.{newline, newlines, Reading, faulty, lines,
 use Rattle.lists.specs.Syntax.{AllValid}
 use Rattle.lists.proofs.Laws.{valid, numbers}
 
--- readings are told apart
+-- lines are no fault, and a reading is one thing only
 pub not-lines : (k n : ℕ) (ls : List Line) → faulty k n ≡ lines ls → ⊥
 not-lines k n ls e = let z : _≡_ {A = ℕ} 0 1 = cc in omega arith
 
@@ -58,7 +58,7 @@ read-text n text =
     subst (λ (k : ℕ). Read k n (piecesFrom n (split newline text))) (split-count newline text)
     (read-pieces n (split newline text) (omega (arith, split-count newline text)))
 
--- ---- as the reading says it
+-- ---- for a reading
 
 pub record Accepted (text : List ℕ) (ls : List Line) : Type 0 where
   -- one line for each newline

@@ -1,4 +1,4 @@
-// Drawing lists: one line as its text says it, the reader of a list, and the line at a place of a text.
+// Drawing lists: the grammar of a line, the reader of a list, and functions with plain parameters above it.
 ghost use mathlib.Core.Path.{_≡_};
 ghost use Rattle.lists.specs.Lists.{newlines, lineAt, newlineBefore};
 

@@ -106,7 +106,7 @@ module _ {M : Type 1} (𝓤 : URA M) (H : Heap 𝓤) (A : Atoms 𝓤) (W : Given
       use1 W (raw (LineFrom 𝓤 H A mem run .pre to))
       (qed W ((‵ (flft κ q) ⊛ ‵ ftrue) ∷ ‵ (Passed κ (d .text) (d .at)) ∷ []) ∵ join ! $ frame ! $ done !) $ frame ! $ done !
 
-  -- of the callee's `ensured`, the clause alone: it has no `&mut`, so what is said of last values is dropped
+  -- of the callee's `ensured`, the clause alone: it has no `&mut`, so last values are dropped
   abbrev Said : LineAt → SProp 𝓤
   Said r = ensured 𝓤 H A work.ended (work.clauses 𝓤 H A mem run) (κ, tt) (d .text, (d .at, tt)) tt r
 
