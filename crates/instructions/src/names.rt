@@ -4,7 +4,11 @@ use text::pieces::piece;
 
 pub fn row(k: usize) {
     let name = piece(
-        b"NOP|Default H2 to H0|Instruction set|Select function|Set Y address of DDRAM|Set X address of DDRAM|Display control|External display control|Bias system|Bias system 1/2|Display part|High voltage generator control|High voltage generator configuration|Temperature control|Temperature measurement control|VLCD control|Grey-scale register control|Grey-scale level control|Display off, direct drive mode|Oscillator setting|Row block swapping",
+        b"NOP|Default H2 to H0|Instruction set|Select function|Set Y address of DDRAM|\
+          Set X address of DDRAM|Display control|External display control|Bias system|Bias system 1/2|\
+          Display part|High voltage generator control|High voltage generator configuration|\
+          Temperature control|Temperature measurement control|VLCD control|Grey-scale register control|\
+          Grey-scale level control|Display off, direct drive mode|Oscillator setting|Row block swapping",
         b'|',
         k,
     );
