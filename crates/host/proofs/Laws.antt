@@ -1,9 +1,9 @@
--- The calls of the host are refused exactly when document 01 says, and a refused call changes nothing. (Boundary.antt: words and record.)
+-- The calls of the host are refused exactly when document 01 says, and a refused call changes nothing. (record_words: words and record.)
 use mathlib.Core.Path.{_≡_, refl, sym, ap, _∙_}
-use mathlib.Core.Bool.{Bool, true, false, not, _||_}
+use mathlib.Core.Bool.{Bool, true, false, cond, not, _||_}
 use mathlib.Core.List.{List}
 use mathlib.Core.Logic.{_↔_}
-use Prim.Native.Nat.{ℕ, suc, _-_, _^_}
+use Prim.Native.Nat.{ℕ, suc, _+_}
 use native.Mathlib.Nat.{suc-ne-zero}
 use lib.Dec.{eqb}
 use lib.ListN.{length, getD}
@@ -14,10 +14,15 @@ use Rattle.compiler.proofs.Laws.{two-exactly}
 use Rattle.engine.specs.Step as inside
 use Rattle.engine.specs.Step.{eventRefusal, refusalOf, accepted, stepOf}
 use Rattle.engine.specs.Run.{runFrom, runOf}
-use Rattle.host.specs.Words.{COUNT, standsFor, chipOf}
-use Rattle.host.specs.Calls.{noRecord, stepped, stepCall, stepRefusal, afterStep, entryRefusal, ran, runCall, afterRun}
+use Rattle.record_words.specs.Words.{COUNT, standsFor, chipOf}
+use Rattle.glass.specs.Pixel.{placeAt}
+use Rattle.glass.specs.Answer.{shownNumber}
+use Rattle.glass.specs.Glass as glass
+use Rattle.glass.specs.Glass.{offGlass, ramRowOf, cellOf, shownAt, glassOf}
+use Rattle.host.specs.Calls.{noRecordFor, noRecord, stepped, stepCall, stepRefusal, afterStep, entryRefusal, ran, runCall, afterRun}
 use Rattle.host.specs.Compiling.{Compiled, compiled, compileCall}
-use Rattle.host.proofs.Boundary.{words-chip-words, stands-allowed}
+use Rattle.host.specs.Views.{glassCall, placeCall, placeRefusal, glassRefusal}
+use Rattle.record_words.proofs.Laws.{words-chip-words, stands-allowed}
 
 module _ (ws m w : List ℕ) where
   never-none : noRecord m w ≡ 0 → ⊥
@@ -96,3 +101,68 @@ module _ (ws text out : List ℕ) where
       there true h e =
           absurd (true-false (sym (stands-allowed ws h) ∙ two-exactly (chipOf ws) text out .0 (sym (rw h) ∙ e)))
       there false h e = h
+
+-- ---- looking at the glass
+
+module _ (row column : ℕ) (ws : List ℕ) where
+  place-of-chip : standsFor ws ≡ true → glass.placeRefusal (chipOf ws) row column ≡ placeRefusal row column ws
+  unfolding glass.placeRefusal
+  place-of-chip h = rw (stands-allowed ws h, h) (go (offGlass row column))
+    where
+      go : (o : Bool) → _≡_ {A = ℕ} (cond o 5 0) (refuse o 5)
+      go true = refl
+      go false = refl
+
+  pub place-refused : (k : ℕ) → placeRefusal row column ws ≡ suc k → placeCall row column ws ≡ suc k
+  unfolding placeCall cellOf
+  place-refused k r = go (standsFor ws) refl
+    where
+      go : (t : Bool) → standsFor ws ≡ t → placeCall row column ws ≡ suc k
+      go true h = rw (h, place-of-chip h ∙ r)
+      go false h = rw h (rw h at r)
+
+  pub place-shown : placeRefusal row column ws ≡ 0 → placeCall row column ws ≡ 512 + placeAt (ramRowOf (chipOf ws) row) column
+  unfolding placeCall cellOf
+  place-shown r = go (standsFor ws) refl
+    where
+      go : (t : Bool) → standsFor ws ≡ t → placeCall row column ws ≡ 512 + placeAt (ramRowOf (chipOf ws) row) column
+      go true h = rw (h, place-of-chip h ∙ r)
+      go false h = absurd (suc-ne-zero 1 (rw h at r))
+
+  module _ (m : List ℕ) where
+    glass-of-chip : standsFor ws ≡ true → glass.glassRefusal (chipOf ws) (length m) row column ≡ glassRefusal row column ws m
+    unfolding glass.glassRefusal
+    glass-of-chip h = go (eqb (length m) places)
+      where
+        go : (l : Bool) → _≡_ {A = ℕ} (cond (not l) 1 (glass.placeRefusal (chipOf ws) row column)) (refuse (not l) 1 then placeRefusal row column ws)
+        go true = place-of-chip h
+        go false = refl
+
+    -- words that stand for no record: 1 where the memory has another length, else 2
+    glass-of-none : standsFor ws ≡ false → noRecordFor (length m) places ≡ glassRefusal row column ws m
+    glass-of-none h = rw h (go (eqb (length m) places))
+      where
+        go : (l : Bool) → refuse (not l || false) 1 then 2 ≡ refuse (not l) 1 then 2
+        go true = refl
+        go false = refl
+
+    glass-never-none : (l : Bool) → refuse (not l) 1 then 2 ≡ 0 → ⊥
+    glass-never-none true e = suc-ne-zero 1 e
+    glass-never-none false e = suc-ne-zero 0 e
+
+    pub glass-refused : (k : ℕ) → glassRefusal row column ws m ≡ suc k → glassCall row column ws m ≡ suc k
+    unfolding glassCall glassOf
+    glass-refused k r = go (standsFor ws) refl
+      where
+        go : (t : Bool) → standsFor ws ≡ t → glassCall row column ws m ≡ suc k
+        go true h = rw (h, glass-of-chip h ∙ r)
+        go false h = rw h (glass-of-none h ∙ r)
+
+    pub glass-shown :
+        glassRefusal row column ws m ≡ 0 → glassCall row column ws m ≡ shownNumber (shownAt (chipOf ws .registers) m (ramRowOf (chipOf ws) row) column)
+    unfolding glassCall glassOf
+    glass-shown r = go (standsFor ws) refl
+      where
+        go : (t : Bool) → standsFor ws ≡ t → glassCall row column ws m ≡ shownNumber (shownAt (chipOf ws .registers) m (ramRowOf (chipOf ws) row) column)
+        go true h = rw (h, glass-of-chip h ∙ r)
+        go false h = absurd (glass-never-none (eqb (length m) places) (rw h at r))

@@ -1,8 +1,2 @@
-pub mod Lists
-pub mod Stands
-pub mod Across
-pub mod Ways
-pub mod Boundary
-pub mod Compiling
+pub mod CodeWays
 pub mod Laws
-pub mod Views

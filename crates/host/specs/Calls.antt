@@ -1,7 +1,7 @@
 -- The three calls of a C host, on numbers and buffers: what each gives back, and how it leaves what was lent. Every input has its outcome.
-use mathlib.Core.Bool.{cond, not, _&&_, _||_}
+use mathlib.Core.Bool.{cond, not, _&&_}
 use mathlib.Core.List.{List}
-use Prim.Native.Nat.{ℕ, _-_, _^_}
+use Prim.Native.Nat.{ℕ}
 use lib.Dec.{leb, eqb}
 use lib.ListN.{length, getD}
 use Rattle.registers.specs.Record.{resetChip}
@@ -10,7 +10,7 @@ use Rattle.registers.specs.State.{state}
 use Rattle.engine.specs.Event.{numberOf}
 use Rattle.engine.specs.Step.{After, stepOf, eventRefusal}
 use Rattle.engine.specs.Run.{Outcome, runOf}
-use Rattle.host.specs.Words.{COUNT, standsFor, chipOf, wordsOf}
+use Rattle.record_words.specs.Words.{COUNT, recordLength, standsFor, chipOf, wordsOf}
 
 -- words that stand for no record: 2, unless a lent memory has another length, since 1 comes first
 abbrev pub noRecordFor : ℕ → ℕ → ℕ
@@ -30,7 +30,7 @@ abbrev pub reset : ℕ → List ℕ → Reset
 reset n ws = record { number = n; words = ws }
 
 unfoldable pub resetCall : ℕ → List ℕ → Reset
-resetCall pins ws = cond (eqb (length ws) 35 && leb pins 3) (reset 0 (wordsOf (resetChip pins))) (reset 2 ws)
+resetCall pins ws = cond (eqb (length ws) recordLength && leb pins 3) (reset 0 (wordsOf (resetChip pins))) (reset 2 ws)
 
 -- ---- pcf8820_step
 

@@ -3,8 +3,8 @@ use mathlib.Core.Bool.{cond}
 use mathlib.Core.List.{List}
 use Prim.Native.Nat.{ℕ}
 use Rattle.compiler.specs.declared.answer.Numbers.{Numbers}
-use Rattle.compiler.specs.Compile.{Result, compileOf, numbersOf}
-use Rattle.host.specs.Words.{standsFor, chipOf}
+use Rattle.compiler.specs.Compile.{compileOf, numbersOf}
+use Rattle.record_words.specs.Words.{standsFor, chipOf}
 
 pub record Compiled : Type 0 where
   pub number : ℕ

@@ -9,7 +9,7 @@ use Rattle.registers.specs.Refusals.{refuse, _then_}
 use Rattle.glass.specs.Answer.{shownNumber, cellNumber}
 use Rattle.glass.specs.Glass.{offGlass, cellOf, glassOf}
 use Rattle.host.specs.Calls.{noRecordFor}
-use Rattle.host.specs.Words.{standsFor, chipOf}
+use Rattle.record_words.specs.Words.{standsFor, chipOf}
 
 -- pcf8820_glass; there are no writer numbers whose length could be wrong
 unfoldable pub glassCall : ℕ → ℕ → List ℕ → List ℕ → ℕ

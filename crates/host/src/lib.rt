@@ -1,12 +1,13 @@
-// The calls of a host in C (include/pcf8820.h). The host holds a chip's record as 35 words; each call answers for every buffer it may be lent.
+// The calls of a host in C (include/pcf8820.h). The host holds a chip's record as words; each call answers for every buffer it may be lent.
 ghost use mathlib.Core.Path.{_≡_};
 ghost use Rattle.host.specs.Calls.{noRecordFor, reset, resetCall, stepped, stepCall, ran, runCall};
 ghost use Rattle.host.specs.Compiling.{compiled, compileCall};
 ghost use Rattle.host.specs.Views.{glassCall, placeCall};
+use record_words::Read;
+use record_words::WORDS;
+use record_words::read_record;
+use record_words::write_record;
 use registers::Chip;
-
-mod phase;
-mod words;
 
 // Why words that stand for no record are refused: 1 comes first.
 fn no_record(memory_len: usize, writers_len: usize) -> u64
@@ -26,13 +27,13 @@ fn no_record(memory_len: usize, writers_len: usize) -> u64
 pub extern "C" fn pcf8820_reset(record: &mut [u64], pins: u64) -> u64
     ensures { λ r. ⌜ reset r (now («record» .exit)) ≡ resetCall pins (now («record» .entry)) ⌝ }
 {
-    if record.len() != 35 {
+    if record.len() != WORDS {
         return 2;
     }
     if 3 < pins {
         return 2;
     }
-    words::write(Chip::reset(pins as u8), record);
+    write_record(Chip::reset(pins as u8), record);
     0
 }
 
@@ -44,14 +45,16 @@ pub extern "C" fn pcf8820_step(
     writers: &mut [u64],
     event: u16,
 ) -> u64
-    ensures { λ r. ⌜ stepped r (now («record» .exit)) (now (memory .exit)) (now (writers .exit)) ≡ stepCall event (now («record» .entry)) (now (memory .entry)) (now (writers .entry)) ⌝ }
+    ensures { λ r. ⌜ stepped r (now («record» .exit)) (now (memory .exit)) (now (writers .exit))
+        ≡ stepCall event (now («record» .entry)) (now (memory .entry)) (now (writers .entry)) ⌝ }
 {
-    if !words::stand_for_a_chip(record) {
+    let found = read_record(record);
+    let Read::Record(chip) = found else {
         return no_record(memory.len(), writers.len());
-    }
-    let stepped = engine::step::step(event, words::chip(record), memory, writers);
+    };
+    let stepped = engine::step::step(event, chip, memory, writers);
     let answer = stepped.answer;
-    words::write(stepped.chip, record);
+    write_record(stepped.chip, record);
     answer.number()
 }
 
@@ -64,15 +67,17 @@ pub extern "C" fn pcf8820_run(
     events: &[u16],
     done: &mut u64,
 ) -> u64
-    ensures { λ r. ⌜ ran r (now (done .exit)) (now («record» .exit)) (now (memory .exit)) (now (writers .exit)) ≡ runCall (now (events .entry)) (now («record» .entry)) (now (memory .entry)) (now (writers .entry)) ⌝ }
+    ensures { λ r. ⌜ ran r (now (done .exit)) (now («record» .exit)) (now (memory .exit)) (now (writers .exit))
+        ≡ runCall (now (events .entry)) (now («record» .entry)) (now (memory .entry)) (now (writers .entry)) ⌝ }
 {
-    if !words::stand_for_a_chip(record) {
+    let found = read_record(record);
+    let Read::Record(chip) = found else {
         *done = 0;
         return no_record(memory.len(), writers.len());
-    }
-    let ran = engine::run::run(words::chip(record), memory, writers, events);
+    };
+    let ran = engine::run::run(chip, memory, writers, events);
     *done = ran.done as u64;
-    words::write(ran.chip, record);
+    write_record(ran.chip, record);
     ran.refusal as u64
 }
 
@@ -81,10 +86,11 @@ pub extern "C" fn pcf8820_run(
 pub extern "C" fn pcf8820_glass(record: &[u64], memory: &[u8], row: u64, column: u64) -> u64
     ensures { λ r. ⌜ r ≡ glassCall row column (now («record» .entry)) (now (memory .entry)) ⌝ }
 {
-    if !words::stand_for_a_chip(record) {
+    let found = read_record(record);
+    let Read::Record(chip) = found else {
         return no_record(memory.len(), 1717);
-    }
-    let shown = glass::glass(words::chip(record), memory, row as usize, column as usize);
+    };
+    let shown = glass::glass(chip, memory, row as usize, column as usize);
     shown.number()
 }
 
@@ -93,10 +99,11 @@ pub extern "C" fn pcf8820_glass(record: &[u64], memory: &[u8], row: u64, column:
 pub extern "C" fn pcf8820_place(record: &[u64], row: u64, column: u64) -> u64
     ensures { λ r. ⌜ r ≡ placeCall row column (now («record» .entry)) ⌝ }
 {
-    if !words::stand_for_a_chip(record) {
+    let found = read_record(record);
+    let Read::Record(chip) = found else {
         return 2;
-    }
-    let place = glass::place(words::chip(record), row as usize, column as usize);
+    };
+    let place = glass::place(chip, row as usize, column as usize);
     place.number()
 }
 
@@ -110,15 +117,17 @@ pub extern "C" fn pcf8820_compile(
     clocks: &mut u64,
     line: &mut u64,
 ) -> u64
-    ensures { λ r. ⌜ compiled r (now (length .exit)) (now (clocks .exit)) (now (line .exit)) (now (out .exit)) ≡ compileCall (now («record» .entry)) (now (text .entry)) (now (out .entry)) ⌝ }
+    ensures { λ r. ⌜ compiled r (now (length .exit)) (now (clocks .exit)) (now (line .exit)) (now (out .exit))
+        ≡ compileCall (now («record» .entry)) (now (text .entry)) (now (out .entry)) ⌝ }
 {
-    if !words::stand_for_a_chip(record) {
+    let found = read_record(record);
+    let Read::Record(chip) = found else {
         *length = 0;
         *clocks = 0;
         *line = 0;
         return 2;
-    }
-    let answer = compiler::compile(words::chip(record), text, out);
+    };
+    let answer = compiler::compile(chip, text, out);
     let told = answer.numbers();
     *length = told.length;
     *clocks = told.clocks;

@@ -1,17 +1,19 @@
-use Rattle.host.proofs.Compiling.{compile-no-record, compile-done}
-use Rattle.host.proofs.Ways.{passes}
 use borrow.Author.Needs.{needs}
+use Rattle.host.proofs.CodeWays.{compile-no-record, compile-done}
 use Rattle.host.proofs.pcf8820_compile.Statement.{statement}
 use Rattle.host.proofs.pcf8820_compile.Tie as tie
 
-stand-for-a-chip-requires : tie.Need-stand-for-a-chip-requires
-stand-for-a-chip-requires c κs = search needs
+read-record-requires : tie.Need-read-record-requires
+read-record-requires c κs = search needs
+
+enum-known-found : tie.Need-enum-known-found
+enum-known-found c = search needs
+
+enum-told : tie.Need-enum-told
+enum-told c = search needs
 
 returns : tie.Need-returns
-returns c = compile-no-record _ _ _ _ (c .before .stand-for-a-chip .ensures) (c .if1 .taken)
-
-chip-requires : tie.Need-chip-requires
-chip-requires c κs = passes _ _ (c .before .stand-for-a-chip .ensures) (c .if1 .left)
+returns c = compile-no-record _ _ (c .before .before .read-record .ensures) (c .enum-told .given .1) _ _
 
 compile-requires : tie.Need-compile-requires
 compile-requires c κs = search needs
@@ -24,15 +26,18 @@ same-length c = search needs
 
 returns-2 : tie.Need-returns-2
 returns-2 c =
-    compile-done _ _ _ _ (c .before .before .before .before .before .before .before .stand-for-a-chip .ensures) _ _ _ _ (c .before .before .before .before .before .before .if1 .left) (c .before .before .before .before .before .chip .ensures) (c .before .before .before .compile .ensures .0) (c .numbers .ensures)
+    let compiled = c .before .before .before in
+    let found = compiled .before .before .before in
+    compile-done _ _ _ (found .before .before .read-record .ensures) (found .found .given .1) _ _ _ _ _ (compiled .compile .ensures .0) (c .numbers .ensures)
 
 pub pcf8820-compile-spec : {M : Type 1} → statement M
 pcf8820-compile-spec =
     tie.close
     (tie.spec
-    stand-for-a-chip-requires
+    read-record-requires
+    enum-known-found
+    enum-told
     returns
-    chip-requires
     compile-requires
     numbers-requires
     same-length

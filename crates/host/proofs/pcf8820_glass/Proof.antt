@@ -1,20 +1,22 @@
-use Rattle.host.proofs.Views.{glass-no-record, glass-done}
-use Rattle.host.proofs.Ways.{passes}
 use borrow.Author.Needs.{needs}
+use Rattle.host.proofs.CodeWays.{glass-no-record, glass-done}
 use Rattle.host.proofs.pcf8820_glass.Statement.{statement}
 use Rattle.host.proofs.pcf8820_glass.Tie as tie
 
-stand-for-a-chip-requires : tie.Need-stand-for-a-chip-requires
-stand-for-a-chip-requires c κs = search needs
+read-record-requires : tie.Need-read-record-requires
+read-record-requires c κs = search needs
+
+enum-known-found : tie.Need-enum-known-found
+enum-known-found c = search needs
+
+enum-told : tie.Need-enum-told
+enum-told c = search needs
 
 no-record-requires : tie.Need-no-record-requires
 no-record-requires c κs = search needs
 
 returns : tie.Need-returns
-returns c = glass-no-record _ _ _ _ (c .before .before .stand-for-a-chip .ensures) _ _ (c .before .if1 .taken) (c .no-record .ensures)
-
-chip-requires : tie.Need-chip-requires
-chip-requires c κs = passes _ _ (c .before .stand-for-a-chip .ensures) (c .if1 .left)
+returns c = glass-no-record _ _ (c .before .before .before .read-record .ensures) (c .before .enum-told .given .1) _ _ _ _ (c .no-record .ensures)
 
 glass-requires : tie.Need-glass-requires
 glass-requires c κs = search needs
@@ -24,16 +26,18 @@ number-requires c κs = search needs
 
 returns-2 : tie.Need-returns-2
 returns-2 c =
-    glass-done _ _ _ _ (c .before .before .before .before .stand-for-a-chip .ensures) _ _ _ _ (c .before .before .before .if1 .left) (c .before .before .chip .ensures) (c .before .glass .ensures) (c .number .ensures)
+    let found = c .before .before .before in
+    glass-done _ _ _ (found .before .before .read-record .ensures) (found .found .given .1) _ _ _ _ _ (c .before .glass .ensures) (c .number .ensures)
 
 pub pcf8820-glass-spec : {M : Type 1} → statement M
 pcf8820-glass-spec =
     tie.close
     (tie.spec
-    stand-for-a-chip-requires
+    read-record-requires
+    enum-known-found
+    enum-told
     no-record-requires
     returns
-    chip-requires
     glass-requires
     number-requires
     returns-2)

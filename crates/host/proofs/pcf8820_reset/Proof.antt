@@ -1,5 +1,5 @@
-use Rattle.host.proofs.Ways.{reset-other-length, reset-other-pins, reset-done}
 use borrow.Author.Needs.{needs}
+use Rattle.host.proofs.CodeWays.{reset-other-length, reset-other-pins, reset-done}
 use Rattle.host.proofs.pcf8820_reset.Statement.{statement}
 use Rattle.host.proofs.pcf8820_reset.Tie as tie
 
@@ -15,16 +15,26 @@ cast-reset c = search needs
 reset-requires : tie.Need-reset-requires
 reset-requires c κs = search needs
 
-write-requires : tie.Need-write-requires
-write-requires c κs = search needs
+write-record-requires : tie.Need-write-record-requires
+write-record-requires c κs = search needs
 
 same-length : tie.Need-same-length
 same-length c = search needs
 
 returns-3 : tie.Need-returns-3
-returns-3 c = reset-done _ _ _ _ (c .before .before .before .before .before .before .if1 .left) (c .before .before .before .before .before .if2 .left) (c .before .before .before .before .reset .ensures) (c .before .before .write .ensures)
+returns-3 c =
+    let written = c .before .before in
+    let tested = written .before .before .before in
+    reset-done _ _ _ _ (tested .before .if1 .left) (tested .if2 .left) (written .before .before .reset .ensures) (written .write-record .ensures)
 
 pub pcf8820-reset-spec : {M : Type 1} → statement M
 pcf8820-reset-spec =
     tie.close
-    (tie.spec returns returns-2 cast-reset reset-requires write-requires same-length returns-3)
+    (tie.spec
+    returns
+    returns-2
+    cast-reset
+    reset-requires
+    write-record-requires
+    same-length
+    returns-3)

@@ -1,11 +1,16 @@
-use Rattle.host.proofs.Ways.{passes, step-no-record, step-done}
-use Rattle.host.proofs.Stands.{stands-length}
 use borrow.Author.Needs.{needs}
+use Rattle.host.proofs.CodeWays.{step-no-record, step-done}
 use Rattle.host.proofs.pcf8820_step.Statement.{statement}
 use Rattle.host.proofs.pcf8820_step.Tie as tie
 
-stand-for-a-chip-requires : tie.Need-stand-for-a-chip-requires
-stand-for-a-chip-requires c κs = search needs
+read-record-requires : tie.Need-read-record-requires
+read-record-requires c κs = search needs
+
+enum-known-found : tie.Need-enum-known-found
+enum-known-found c = search needs
+
+enum-told : tie.Need-enum-told
+enum-told c = search needs
 
 no-record-requires : tie.Need-no-record-requires
 no-record-requires c κs = search needs
@@ -14,16 +19,13 @@ same-length : tie.Need-same-length
 same-length c = search needs
 
 returns : tie.Need-returns
-returns c = step-no-record _ _ _ _ (c .before .before .stand-for-a-chip .ensures) _ _ (c .before .if1 .taken) (c .no-record .ensures)
-
-chip-requires : tie.Need-chip-requires
-chip-requires c κs = passes _ _ (c .before .before .stand-for-a-chip .ensures) (c .before .if1 .left)
+returns c = step-no-record _ _ (c .before .before .before .read-record .ensures) (c .before .enum-told .given .1) _ _ _ _ (c .no-record .ensures)
 
 step-requires : tie.Need-step-requires
 step-requires c κs = search needs
 
-write-requires : tie.Need-write-requires
-write-requires c κs = stands-length _ (passes _ _ (c .before .before .before .before .before .before .before .before .before .before .before .stand-for-a-chip .ensures) (c .before .before .before .before .before .before .before .before .before .before .if1 .left))
+write-record-requires : tie.Need-write-record-requires
+write-record-requires c κs = search needs
 
 number-requires : tie.Need-number-requires
 number-requires c κs = search needs
@@ -38,19 +40,25 @@ same-length-4 : tie.Need-same-length-4
 same-length-4 c = search needs
 
 returns-2 : tie.Need-returns-2
-returns-2 c = step-done _ _ _ _ (c .before .before .before .before .before .before .before .before .before .before .before .before .before .before .before .stand-for-a-chip .ensures) _ _ _ _ _ _ _ _ (c .before .before .before .before .before .before .before .before .before .before .before .before .before .before .if1 .left) (c .before .before .before .before .before .before .before .before .before .before .before .before .chip .ensures) (c .before .before .before .before .before .before .before .before .before .step .ensures) (c .before .before .before .write .ensures) (c .number .ensures)
+returns-2 c =
+    let written = c .before .before .before in
+    let played = written .before .before .before .before .before .before in
+    let found = played .before .before .before .before in
+    step-done _ _ _ (found .before .before .read-record .ensures) (found .found .given .1) _ _ _ _ _ _ _ _ _ (played .step .ensures)
+    (written .write-record .ensures) (c .number .ensures)
 
 pub pcf8820-step-spec : {M : Type 1} → statement M
 pcf8820-step-spec =
     tie.close
     (tie.spec
-    stand-for-a-chip-requires
+    read-record-requires
+    enum-known-found
+    enum-told
     no-record-requires
     same-length
     returns
-    chip-requires
     step-requires
-    write-requires
+    write-record-requires
     number-requires
     same-length-2
     same-length-3

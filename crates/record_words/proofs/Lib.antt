@@ -1,0 +1,3 @@
+pub mod Stands
+pub mod Laws
+pub mod CodeWays
