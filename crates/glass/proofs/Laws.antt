@@ -1,14 +1,14 @@
 -- What is promised of the glass, in one place: read this file first. The work stands in the files beside it.
 use mathlib.Core.Path.{_≡_, sym, ap, ap₂, _∙_}
-use mathlib.Core.Bool.{true, cond, not}
+use mathlib.Core.Bool.{true}
 use mathlib.Core.List.{List}
 use mathlib.Core.Logic.{_⊎_, _↔_}
 use Prim.Native.Nat.{ℕ, suc, _/_, _%_, _-_, _≤_, _<_}
-use lib.Dec.{eqb}
 use lib.ListN.{length, getD}
 use Rattle.registers.specs.declared.Chip.{Chip}
 use Rattle.registers.specs.Places.{MX, MY}
 use Rattle.registers.specs.Record.{allowed}
+use Rattle.registers.specs.Refusals.{_then_, lengthRefusal}
 use Rattle.registers.specs.State.{places}
 use Rattle.glass.specs.declared.answer.Shown.the-variants as shown
 use Rattle.glass.specs.declared.answer.Cell.the-variants as cell
@@ -101,7 +101,7 @@ module _ (c : Chip) (is-allowed : allowed c ≡ true) (row column : ℕ) where
   pub my-mirrors : (m : List ℕ) → row ≤ 66 → glassOf (changed MY (1 - c .registers .my) c) m row column ≡ glassOf c m (66 - row) column
   unfolding glassOf glassRefusal
   my-mirrors m h =
-      ap₂ (λ (x ram : ℕ). shownUnless (cond (not (eqb (length m) places)) 1 x) (shownAt (c .registers) m ram column)) (mirrored-refusal c is-allowed row column h)
+      ap₂ (λ (x ram : ℕ). shownUnless (lengthRefusal (length m) then x) (shownAt (c .registers) m ram column)) (mirrored-refusal c is-allowed row column h)
       (flipped-row (c .registers .my) row (my-bound c is-allowed) h)
 
   -- changing MX changes nothing that is shown
@@ -113,5 +113,5 @@ module _ (c : Chip) (is-allowed : allowed c ≡ true) (row column : ℕ) where
   pub mx-unseen : (m : List ℕ) (n : ℕ) → n ≤ 1 → glassOf (changed MX n c) m row column ≡ glassOf c m row column
   unfolding glassOf glassRefusal
   mx-unseen m n h =
-      ap (λ (x : ℕ). shownUnless (cond (not (eqb (length m) places)) 1 x) (shownAt (c .registers) m (ramRowOf c row) column))
+      ap (λ (x : ℕ). shownUnless (lengthRefusal (length m) then x) (shownAt (c .registers) m (ramRowOf c row) column))
       (changed-refusal MX n c h is-allowed row column)

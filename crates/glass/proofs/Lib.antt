@@ -1,5 +1,5 @@
 pub mod Pixels
 pub mod Refusals
-pub mod Ways
+pub mod CodeWays
 pub mod Views
 pub mod Laws

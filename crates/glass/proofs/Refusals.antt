@@ -1,6 +1,6 @@
 -- Exactly when each refusal comes.
 use mathlib.Core.Path.{_≡_, refl, subst}
-use mathlib.Core.Bool.{Bool, true, false, cond, not, _||_}
+use mathlib.Core.Bool.{Bool, true, false, not, _||_}
 use mathlib.Core.Logic.{_↔_}
 use Prim.Native.Nat.{ℕ, zero, suc}
 use native.Mathlib.Omega.{arith}
@@ -8,6 +8,7 @@ use borrow.Author.Tests.{eq-eqb, ne-eqb, le-ltb, eqb-true, eqb-false, ltb-false}
 use lib.Dec.{eqb, ltb}
 use Rattle.registers.specs.declared.Chip.{Chip}
 use Rattle.registers.specs.Record.{allowed}
+use Rattle.registers.specs.Refusals.{refuse, _then_}
 use Rattle.registers.specs.State.{places}
 use Rattle.glass.specs.Glass.{offGlass, placeRefusal, glassRefusal}
 use Rattle.glass.specs.When.{OnGlass, PlaceWhen, GlassWhen}
@@ -43,7 +44,7 @@ module _ (c : Chip) (row column : ℕ) where
   unfolding placeRefusal
   place-verdict = go (allowed c) (offGlass row column) refl refl
     where
-      go : (a o : Bool) → allowed c ≡ a → offGlass row column ≡ o → PlaceWhen c row column (cond (not a) 2 (cond o 5 0))
+      go : (a o : Bool) → allowed c ≡ a → offGlass row column ≡ o → PlaceWhen c row column (refuse (not a) 2 then refuse o 5)
       go false o ea eo = ea
       go true true ea eo = (ea, not-on-glass row column eo)
       go true false ea eo = (ea, on-glass row column eo)
@@ -70,7 +71,7 @@ module _ (c : Chip) (n row column : ℕ) where
     where
       go :
           (l a o : Bool) → eqb n places ≡ l → allowed c ≡ a → offGlass row column ≡ o
-          → GlassWhen c n row column (cond (not l) 1 (cond (not a) 2 (cond o 5 0)))
+          → GlassWhen c n row column (refuse (not l) 1 then refuse (not a) 2 then refuse o 5)
       go false a o el ea eo = eqb-false n places el
       go true false o el ea eo = (eqb-true n places el, ea)
       go true true true el ea eo = (eqb-true n places el, ea, not-on-glass row column eo)

@@ -10,6 +10,7 @@ use lib.ListN.{getD}
 use Rattle.registers.specs.declared.Registers.{Registers}
 use Rattle.registers.specs.declared.Chip.{Chip}
 use Rattle.registers.specs.Places.{MY, GS0, GS1, GS2, GS3}
+use Rattle.registers.specs.Refusals.{refuse, _then_}
 use Rattle.registers.specs.Record.{limits, allowed}
 use Rattle.registers.proofs.Within.{register-bound, allowed-registers}
 use Rattle.registers.proofs.Put.{put-allowed}
@@ -32,7 +33,7 @@ same-refusal :
     (c d : Chip) (row other column : ℕ) → allowed c ≡ allowed d → offGlass row column ≡ offGlass other column
     → placeRefusal c row column ≡ placeRefusal d other column
 unfolding placeRefusal
-same-refusal c d row other column a o = ap₂ (λ (a o : Bool). cond (not a) 2 (cond o 5 0)) a o
+same-refusal c d row other column a o = ap₂ (λ (a o : Bool). refuse (not a) 2 then refuse o 5) a o
 
 pub changed-refusal :
     (f n : ℕ) (c : Chip) → n ≤ getD limits f 0 → allowed c ≡ true → (row column : ℕ) → placeRefusal (changed f n c) row column ≡ placeRefusal c row column

@@ -1,13 +1,12 @@
 -- What a row and column of the glass show, and which place of the memories that is, for every input: refusals 1, 2 and 5 in their order.
-use mathlib.Core.Bool.{Bool, cond, not, _||_}
+use mathlib.Core.Bool.{Bool, _||_}
 use mathlib.Core.List.{List}
 use Prim.Native.Nat.{ℕ, zero, suc}
-use lib.Dec.{ltb, eqb}
+use lib.Dec.{ltb}
 use lib.ListN.{length, getD}
 use Rattle.registers.specs.declared.Registers.{Registers}
 use Rattle.registers.specs.declared.Chip.{Chip}
-use Rattle.registers.specs.Record.{allowed}
-use Rattle.registers.specs.State.{places}
+use Rattle.registers.specs.Refusals.{refuse, _then_, lengthRefusal, recordRefusal}
 use Rattle.glass.specs.declared.answer.Shown.{Shown}
 use Rattle.glass.specs.declared.answer.Shown.the-variants as shown
 use Rattle.glass.specs.declared.answer.Cell.{Cell}
@@ -20,16 +19,11 @@ abbrev pub offGlass : ℕ → ℕ → Bool
 offGlass row column = ltb 66 row || ltb 100 column
 
 unfoldable pub placeRefusal : Chip → ℕ → ℕ → ℕ
-placeRefusal c row column =
-    cond (not (allowed c)) 2
-    (cond (offGlass row column) 5
-    0)
+placeRefusal c row column = recordRefusal c then refuse (offGlass row column) 5
 
 -- the same after the length of the memory
 unfoldable pub glassRefusal : Chip → ℕ → ℕ → ℕ → ℕ
-glassRefusal c memoryLength row column =
-    cond (not (eqb memoryLength places)) 1
-    (placeRefusal c row column)
+glassRefusal c memoryLength row column = lengthRefusal memoryLength then placeRefusal c row column
 
 -- ---- the place
 

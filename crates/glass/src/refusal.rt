@@ -7,8 +7,9 @@ use registers::Chip;
 pub fn of_place(chip: Chip, row: usize, column: usize) -> u8
     ensures { λ r. ⌜ r ≡ placeRefusal chip row column ⌝ }
 {
-    if !chip.allowed() {
-        return 2;
+    let record = registers::refusal::of_record(chip);
+    if record != 0 {
+        return record;
     }
     if (66 < row) | (100 < column) { 5 } else { 0 }
 }
@@ -17,8 +18,9 @@ pub fn of_place(chip: Chip, row: usize, column: usize) -> u8
 pub fn of_glass(chip: Chip, memory_len: usize, row: usize, column: usize) -> u8
     ensures { λ r. ⌜ r ≡ glassRefusal chip «memory_len» row column ⌝ }
 {
-    if memory_len != 1717 {
-        return 1;
+    let length = registers::refusal::of_length(memory_len);
+    if length != 0 {
+        return length;
     }
     of_place(chip, row, column)
 }

@@ -1,5 +1,5 @@
 use native.Mathlib.Omega.{arith}
-use Rattle.glass.proofs.Ways.{glass-accepts, glass-refused, glass-found}
+use Rattle.glass.proofs.CodeWays.{glass-accepts, glass-refused, glass-found}
 use borrow.Author.Needs.{needs}
 use Rattle.glass.proofs.glass.Statement.{statement}
 use Rattle.glass.proofs.glass.Tie as tie

@@ -1,5 +1,5 @@
 use native.Mathlib.Omega.{arith}
-use Rattle.glass.proofs.Ways.{place-accepts, place-refused, place-found}
+use Rattle.glass.proofs.CodeWays.{place-accepts, place-refused, place-found}
 use borrow.Author.Needs.{needs}
 use Rattle.glass.proofs.place.Statement.{statement}
 use Rattle.glass.proofs.place.Tie as tie

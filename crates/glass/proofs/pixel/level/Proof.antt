@@ -1,4 +1,4 @@
-use Rattle.glass.proofs.Pixels.{past-last}
+use Rattle.glass.proofs.CodeWays.{past-last}
 use native.Mathlib.Omega.{arith}
 use Rattle.glass.proofs.pixel.level.Statement.{statement}
 use Rattle.glass.proofs.pixel.level.Tie as tie

@@ -1,4 +1,4 @@
-use Rattle.glass.proofs.Pixels.{shown-dark, shown-undriven, shown-level}
+use Rattle.glass.proofs.CodeWays.{shown-dark, shown-undriven, shown-level}
 use borrow.Author.Needs.{needs}
 use Rattle.glass.proofs.pixel.shown.Statement.{statement}
 use Rattle.glass.proofs.pixel.shown.Tie as tie

@@ -1,7 +1,7 @@
 use borrow.Author.Needs.{needs}
 use native.Mathlib.Omega.{arith}
 use mathlib.Core.Path.{_≡_}
-use Rattle.glass.proofs.Pixels.{value-0, value-1, value-2, value-3}
+use Rattle.glass.proofs.CodeWays.{value-0, value-1, value-2, value-3}
 use Rattle.glass.proofs.pixel.value_in.Statement.{statement}
 use Rattle.glass.proofs.pixel.value_in.Tie as tie
 

@@ -1,16 +1,53 @@
--- Ways through the code of the two calls, over plain variables.
+-- Ways through the code of a pixel and of the two calls, over plain variables.
 use mathlib.Core.Path.{_≡_, refl, sym, _∙_}
-use mathlib.Core.List.{List}
-use Prim.Native.Nat.{ℕ, zero, suc}
-use lib.ListN.{length, getD}
+use mathlib.Core.Bool.{Bool, true, false}
+use mathlib.Core.List.{List, [], _∷_}
+use Prim.Native.Nat.{ℕ, zero, suc, _/_, _%_, _≤_, _<_}
+use native.Mathlib.Omega.{arith}
+use lib.ListN.{length, getD, List·getD-eq-default}
+use Rattle.registers.specs.declared.Registers.{Registers}
 use Rattle.registers.specs.declared.Chip.{Chip}
 use Rattle.glass.specs.declared.answer.Shown.{Shown}
 use Rattle.glass.specs.declared.answer.Shown.the-variants as shown
 use Rattle.glass.specs.declared.answer.Cell.the-variants as cell
-use Rattle.glass.specs.Pixel.{placeAt}
+use Rattle.glass.specs.Pixel.{placeAt, valueIn, isOff, isUndriven, registerUsed, levelOf}
 use Rattle.glass.specs.Glass.{placeRefusal, glassRefusal, ramRowOf, cellOf, shownOf, glassOf}
 use Rattle.glass.specs.When.{PlaceWhen, GlassWhen}
 use Rattle.glass.proofs.Refusals.{place-exactly, glass-exactly}
+
+-- ---- a pixel
+
+-- there are four grey registers
+pub past-last : (r : Registers) (g : ℕ) → 4 ≤ g → 0 ≡ levelOf r g
+past-last r g h = sym (List·getD-eq-default (r .gs0 ∷ r .gs1 ∷ r .gs2 ∷ r .gs3 ∷ []) 0 h)
+
+-- the two bits of each of the four rows
+pub value-0 : (b : ℕ) → b % 4 ≡ valueIn b 0
+value-0 b = omega arith
+
+pub value-1 : (b : ℕ) → b / 4 % 4 ≡ valueIn b 1
+value-1 b = omega arith
+
+pub value-2 : (b : ℕ) → b / 16 % 4 ≡ valueIn b 2
+value-2 b = omega arith
+
+pub value-3 : (b : ℕ) → b < 256 → b / 64 ≡ valueIn b 3
+value-3 b h = omega arith
+
+module _ (r : Registers) (ram byte : ℕ) (off : Bool) (is-off : off ≡ isOff r) where
+  pub shown-dark : off ≡ true → shown.Dark ≡ shownOf r ram byte
+  shown-dark t = simp (sym is-off ∙ t)
+
+  module _ (gap : Bool) (is-gap : gap ≡ isUndriven (r .ps) (r .dp) ram) (on : off ≡ false) where
+    pub shown-undriven : gap ≡ true → shown.Undriven ≡ shownOf r ram byte
+    shown-undriven t = simp (sym is-off ∙ on, sym is-gap ∙ t)
+
+    pub shown-level :
+        (v g n : ℕ) → gap ≡ false → v ≡ valueIn byte (ram % 4) → g ≡ registerUsed (r .d) (r .e) v → n ≡ levelOf r g
+        → shown.Level n ≡ shownOf r ram byte
+    shown-level v g n t ev eg en = simp (sym is-off ∙ on, sym is-gap ∙ t, en, eg, ev)
+
+-- ---- the two calls
 
 module _ (c : Chip) (row column x : ℕ) (refusal : x ≡ placeRefusal c row column) where
   pub place-accepts : x ≡ 0 → PlaceWhen c row column 0
