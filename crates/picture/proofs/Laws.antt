@@ -1,10 +1,15 @@
 -- What is promised of the picture, in one place: read this file first. The work stands in the file beside it.
 use mathlib.Core.Path.{_≡_, refl, sym, ap, _∙_}
+use mathlib.Core.Bool.{Bool, true, false, cond, not}
 use mathlib.Core.List.{List, _++_, append-assoc}
 use Prim.Native.Nat.{ℕ, _+_, _*_, _-_, _≤_, _<_}
 use native.Mathlib.Omega.{arith}
+use lib.Dec.{eqb}
 use lib.ListN.{length, getD}
 use Rattle.registers.specs.declared.Chip.{Chip}
+use Rattle.registers.specs.Record.{allowed}
+use Rattle.registers.specs.Refusals.{refuse, _then_}
+use Rattle.registers.specs.State.{places}
 use Rattle.glass.specs.declared.answer.Shown.the-variants as shown
 use Rattle.glass.specs.Glass.{glassOf, glassRefusal, placeRefusal, ramRowOf, shownBy, shownUnless}
 use Rattle.glass.specs.When.{OnGlass}
@@ -25,7 +30,12 @@ pub use Rattle.picture.proofs.Writes.{pixmap-bound}
 -- the picture is refused where each of its pixels is, by the same number
 pub as-the-glass : (c : Chip) (n row column : ℕ) → OnGlass row column → pixmapRefusal c n ≡ glassRefusal c n row column
 unfolding pixmapRefusal glassRefusal placeRefusal
-as-the-glass c n row column on = sym (simp (is-on row column on))
+as-the-glass c n row column on = sym (simp (is-on row column on) (go (eqb n places) (allowed c)))
+  where
+    go : (l a : Bool) → refuse (not l) 1 then refuse (not a) 2 then 0 ≡ cond (not l) 1 (cond (not a) 2 0)
+    go true true = refl
+    go true false = refl
+    go false a = refl
 
 -- ---- colours
 
