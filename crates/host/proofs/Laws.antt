@@ -107,11 +107,7 @@ module _ (ws text out : List ℕ) where
 module _ (row column : ℕ) (ws : List ℕ) where
   place-of-chip : standsFor ws ≡ true → glass.placeRefusal (chipOf ws) row column ≡ placeRefusal row column ws
   unfolding glass.placeRefusal
-  place-of-chip h = rw (stands-allowed ws h, h) (go (offGlass row column))
-    where
-      go : (o : Bool) → _≡_ {A = ℕ} (cond o 5 0) (refuse o 5)
-      go true = refl
-      go false = refl
+  place-of-chip h = rw (stands-allowed ws h, h)
 
   pub place-refused : (k : ℕ) → placeRefusal row column ws ≡ suc k → placeCall row column ws ≡ suc k
   unfolding placeCall cellOf
@@ -132,11 +128,7 @@ module _ (row column : ℕ) (ws : List ℕ) where
   module _ (m : List ℕ) where
     glass-of-chip : standsFor ws ≡ true → glass.glassRefusal (chipOf ws) (length m) row column ≡ glassRefusal row column ws m
     unfolding glass.glassRefusal
-    glass-of-chip h = go (eqb (length m) places)
-      where
-        go : (l : Bool) → _≡_ {A = ℕ} (cond (not l) 1 (glass.placeRefusal (chipOf ws) row column)) (refuse (not l) 1 then placeRefusal row column ws)
-        go true = place-of-chip h
-        go false = refl
+    glass-of-chip h = ap (λ (k : ℕ). refuse (not (eqb (length m) places)) 1 then k) (place-of-chip h)
 
     -- words that stand for no record: 1 where the memory has another length, else 2
     glass-of-none : standsFor ws ≡ false → noRecordFor (length m) places ≡ glassRefusal row column ws m
