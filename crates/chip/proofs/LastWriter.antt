@@ -203,7 +203,7 @@ module _ (e : ℕ) (es : List ℕ) (s end : State) (n k : ℕ) (up : stepOf e s 
         landed = l .lands;
         is-last = later;
         byte = u .byte ∙ l .byte;
-        writer = u .writer ∙ l .writer;
+        writer = u .writer ∙ l .writer ∙ omega arith;
       }
     where
       later : (j : ℕ) → zero < j → j < suc n → Lands (getD (e ∷ es) j 0) (before (e ∷ es) j s) k → ⊥

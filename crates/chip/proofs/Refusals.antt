@@ -3,6 +3,7 @@ use mathlib.Core.Bool.{Bool, true, false, not, _&&_, _||_}
 use mathlib.Core.Logic.{inl, inr}
 use mathlib.Core.Path.{_≡_, refl, sym, _∙_}
 use Prim.Native.Nat.{ℕ, zero, suc, _-_, _^_}
+use native.Mathlib.Omega.{arith}
 use borrow.Author.Tests.{eq-eqb, ne-eqb, eqb-true, eqb-false, le-leb, leb-true}
 use lib.Dec.{eqb, leb}
 use lib.ListN.{length}
@@ -20,15 +21,15 @@ or-true true = refl
 or-true false = refl
 
 listed-true : (e : ℕ) → Listed e → isListedEvent e ≡ true
-listed-true e (inl h) = simp (le-leb e 260 h)
-listed-true e (inr h) = simp (le-leb 512 e (h .0), le-leb e 767 (h .1)) (or-true (leb e 260))
+listed-true e (inl h) = simp (le-leb e 260 (omega arith))
+listed-true e (inr h) = simp (le-leb 512 e (omega (arith, h .0)), le-leb e 767 (omega (arith, h .1))) (or-true (leb e 260))
 
 is-listed : (e : ℕ) → isListedEvent e ≡ true → Listed e
 is-listed e = go (leb e 260) (leb 512 e) (leb e 767) refl refl refl
   where
     go : (a b c : Bool) → leb e 260 ≡ a → leb 512 e ≡ b → leb e 767 ≡ c → a || (b && c) ≡ true → Listed e
-    go true b c ea eb ec t = inl (leb-true e 260 ea)
-    go false true true ea eb ec t = inr (leb-true 512 e eb, leb-true e 767 ec)
+    go true b c ea eb ec t = inl (omega (arith, leb-true e 260 ea))
+    go false true true ea eb ec t = inr (omega (arith, leb-true 512 e eb), omega (arith, leb-true e 767 ec))
     go false true false ea eb ec t = absurd (false-true t)
     go false false c ea eb ec t = absurd (false-true t)
 
