@@ -66,6 +66,13 @@ run-then xs ys s = run-append xs ys s ∙ go (runOf xs s) (λ z. run-stays-fit x
         by zero q = on (fit q)
         by (suc k) q = refl
 
+-- so a run is its events one by one: the first is refused, or the others are run from the state that its step leaves
+pub run-stopped : (e : ℕ) (es : List ℕ) (s : State) (k : ℕ) → refusalOf e s ≡ suc k → runOf (e ∷ es) s ≡ outcome 0 (suc k) s
+run-stopped e es s k h = run-then (e ∷ []) es s ∙ rw (run-one e s, h, refused e s k h)
+
+pub run-next : (e : ℕ) (es : List ℕ) (s : State) → refusalOf e s ≡ 0 → runOf (e ∷ es) s ≡ moreDone 1 (runOf es (stepOf e s .state))
+run-next e es s h = run-then (e ∷ []) es s ∙ rw (run-one e s, h)
+
 -- a run adds to the count as many as it has done
 pub run-counts : (es : List ℕ) (s : State) → runOf es s .state .chip .count ≡ s .chip .count + runOf es s .done
 unfolding runOf runFrom
