@@ -1,121 +1,104 @@
--- Ways through the code that feeds, over plain variables: the bytes that are left, fed to what the bytes before them left.
-use mathlib.Core.Path.{_≡_, refl, sym, ap, _∙_}
-use mathlib.Core.Bool.{Bool, true, false, cond, _&&_}
-use mathlib.Core.List.{List, [], _∷_}
-use Prim.Native.Nat.{ℕ, _+_, _*_, _-_, _<_, _≤_}
+-- Part after part: what a refused one leaves, and what the parts of a whole text come to.
+use mathlib.Core.Bool.{true}
+use mathlib.Core.List.{List, [], _∷_, _++_}
+use mathlib.Core.Logic.{⊎-elim}
+use mathlib.Core.Path.{_≡_, refl, sym, ap, subst, _∙_}
+use Prim.Native.Nat.{ℕ, zero, suc}
 use native.Mathlib.Omega.{arith}
-use borrow.Author.Tests.{eq-eqb, ne-eqb, eqb-true}
-use lib.Dec.{eqb}
-use lib.ListN.{length, getD, drop, drop-of-length-le, length-drop}
+use lib.Dec.{T}
 use Rattle.registers.specs.State.{State}
-use Rattle.text.specs.Decimal.{isDigit}
-use Rattle.text.proofs.Finding.{drop-next}
-use Rattle.text.proofs.Numbers.{and-both}
-use Rattle.capture.specs.declared.bytes.Scanned.{Scanned}
-use Rattle.capture.specs.declared.Line.{Line}
-use Rattle.capture.specs.declared.Line.the-variants.{Empty, Number}
-use Rattle.capture.specs.Feeding.{goesOn, Fed, fedAs, fedByte, endedLine, joinedTo, scannedFrom, Onward, feedOf}
-use Rattle.capture.specs.Reading.{newline}
-use Rattle.capture.proofs.Lines.{chosen, digit-range, more}
+use Rattle.capture_lines.specs.declared.LineSoFar.{LineSoFar}
+use Rattle.capture_lines.specs.declared.LineSoFar.the-variants.{First, Pins, Empty, Number, BadFirst, Bad}
+use Rattle.capture_lines.specs.SoFar.{isRefused}
+use Rattle.capture.specs.declared.Capture.{Capture}
+use Rattle.capture.specs.Feeding.{Playing, playing, kept, startOf, bytesFed, partRefusal, PartFed, fed, feedOf, thenFed, isOver, finishOf, meaning}
+use Rattle.capture.specs.Replay.{Replay, unlessRefused, replayOf}
+use Rattle.capture.specs.Where.{Lent, Passed}
+use Rattle.capture.proofs.Refusals.{by-lent, replay-lent, replay-not-lent, part-when, none-refused, kept-none, started-fit, stays-passed}
+use Rattle.capture.proofs.Whole.{resultOf, stuck, stuck-first, text-fed}
 
-pub feed-ends : (part : List ℕ) (at : ℕ) (f : Fed) → length part ≤ at → feedOf (drop at part) f ≡ f
+bytes-append : (xs ys : List ℕ) (p : Playing) → bytesFed (xs ++ ys) p ≡ bytesFed ys (bytesFed xs p)
+unfolding bytesFed
+bytes-append [] ys p = refl
+bytes-append (x ∷ xs) ys p = bytes-append xs ys _
+
+-- a part that is not refused
+pub feed-passed : (part : List ℕ) (p : Playing) → Passed p → feedOf part p ≡ record { refusal = 0; after = bytesFed part p }
 unfolding feedOf
-feed-ends part at f h = rw (drop-of-length-le part h)
+feed-passed part p h = rw (part-when p 0 h)
 
--- ---- up to the next newline
-
--- ways through the code that scans
-module _ (part : List ℕ) (at : ℕ) (l : Line) where
-  pub scan-stops : at < length part → getD part at 0 ≡ newline → scannedFrom at (drop at part) l ≡ record { line = l; at = at }
-  unfolding scannedFrom
-  scan-stops h e = rw (drop-next part at h, eq-eqb _ _ e)
-
-  pub scan-on :
-      at < length part → (getD part at 0 ≡ newline → ⊥) → (l′ : Line) → l′ ≡ joinedTo l (getD part at 0)
-      → scannedFrom (at + 1) (drop (at + 1) part) l′ ≡ scannedFrom at (drop at part) l
-  unfolding scannedFrom
-  scan-on h n l′ e = rw (drop-next part at h, ne-eqb _ _ n, e)
-
-  pub scan-ends : length part ≤ at → scannedFrom at (drop at part) l ≡ record { line = l; at = at }
-  unfolding scannedFrom
-  scan-ends h = rw (drop-of-length-le part h)
-
--- a digit that may follow, and one that begins an event line
-module _ (part : List ℕ) (at : ℕ) (h : at < length part) (t : Bool) (e : t ≡ isDigit (getD part at 0)) where
-  no-newline : t ≡ true → getD part at 0 ≡ newline → ⊥
-  no-newline is q = let range = digit-range (getD part at 0) t e is in omega arith
-
-  pub digit-follows :
-      (n : ℕ) (u : Bool) → u ≡ goesOn n → u && t ≡ true
-      → scannedFrom (at + 1) (drop (at + 1) part) (Number (n * 10 + (getD part at 0 - 48))) ≡ scannedFrom at (drop at part) (Number n)
-  unfolding joinedTo
-  digit-follows n u eu is =
-      scan-on part at (Number n) h (no-newline (and-both u t is .1)) _ (more (getD part at 0) t e n u eu is)
-
-  pub digit-begins : t ≡ true → scannedFrom (at + 1) (drop (at + 1) part) (Number (getD part at 0 - 48)) ≡ scannedFrom at (drop at part) Empty
-  unfolding joinedTo
-  digit-begins is = scan-on part at Empty h (no-newline is) _ (chosen (isDigit (getD part at 0)) _ _ _ (sym e ∙ is) refl)
-
--- a line that is told
-pub onward-told : (told line : Line) (part : List ℕ) (at : ℕ) (r : Scanned) → line ≡ told → Onward part at told r → Onward part at line r
-onward-told told line part at r e h = rw e h
-
--- what the scan leaves is still to be fed
-pub record Scan (part : List ℕ) (at : ℕ) (l : Line) (r : Scanned) : Type 0 where
-  pub starts : at ≤ r .at
-  pub within : r .at ≤ length part
-  pub stops : r .at < length part → getD part (r .at) 0 ≡ newline
-  pub leaves : (s : State) → feedOf (drop at part) (fedAs l s) ≡ feedOf (drop (r .at) part) (fedAs (r .line) s)
-
--- a byte that joins its line
-byte-joins :
-    (bs part : List ℕ) (at b : ℕ) (l : Line) (s : State) → drop at part ≡ b ∷ bs → drop (at + 1) part ≡ bs → eqb b newline ≡ false
-    → feedOf (drop at part) (fedAs l s) ≡ feedOf (drop (at + 1) part) (fedAs (joinedTo l b) s)
+pub feed-refused : (part : List ℕ) (p : Playing) (k : ℕ) → partRefusal p ≡ suc k → feedOf part p ≡ record { refusal = suc k; after = p }
 unfolding feedOf
-byte-joins bs part at b l s e en t = rw (e, en, t)
+feed-refused part p k e = rw e
 
-scans : (bs part : List ℕ) (at : ℕ) (l : Line) → drop at part ≡ bs → at ≤ length part → Scan part at l (scannedFrom at bs l)
-unfolding scannedFrom
-scans [] part at l e h = record { starts = omega arith; within = h; stops = λ i. absurd (past i); leaves = λ s. refl }
+-- two parts
+pub feed-append : (xs ys : List ℕ) (p : Playing) → feedOf (xs ++ ys) p ≡ thenFed (feedOf xs p) ys
+feed-append xs ys p = go (partRefusal p) refl
   where
-    past : at < length part → ⊥
-    past i = let z : _≡_ {A = ℕ} 0 1 = cc (drop-next part at i) in omega arith
-scans (b ∷ bs) part at l e h = go (eqb b newline) refl (scans bs part (at + 1) (joinedTo l b) behind inside)
+    go : (k : ℕ) → partRefusal p ≡ k → feedOf (xs ++ ys) p ≡ thenFed (feedOf xs p) ys
+    go zero e =
+        let passed = none-refused p e in
+        feed-passed (xs ++ ys) p passed
+        ∙ ap (λ (q : Playing). record { refusal = 0; after = q }) (bytes-append xs ys p)
+        ∙ sym (feed-passed ys (bytesFed xs p) (stays-passed xs p passed))
+        ∙ ap (λ (f : PartFed). thenFed f ys) (sym (feed-passed xs p passed))
+    go (suc k) e = feed-refused (xs ++ ys) p k e ∙ ap (λ (f : PartFed). thenFed f ys) (sym (feed-refused xs p k e))
+
+-- ---- nothing follows a refusal
+
+kept-out : (xs : List ℕ) (l : LineSoFar) (s : State) → isRefused l ≡ true → bytesFed xs (playing l s) ≡ playing l s
+kept-out xs (First k) s h = absurd (subst T (sym h) tt)
+kept-out xs (Pins p) s h = absurd (subst T (sym h) tt)
+kept-out xs Empty s h = absurd (subst T (sym h) tt)
+kept-out xs (Number n) s h = absurd (subst T (sym h) tt)
+kept-out xs BadFirst s h = stuck-first xs s
+kept-out xs Bad s h = stuck xs s
+
+pub feed-over : (xs ys : List ℕ) (p : Playing) → isOver (feedOf xs p) ≡ true → feedOf (xs ++ ys) p ≡ feedOf xs p
+feed-over xs ys p over = go (partRefusal p) refl
   where
-    inside : at + 1 ≤ length part
-    inside = omega (arith, simp length-drop at (ap length e))
+    go : (k : ℕ) → partRefusal p ≡ k → feedOf (xs ++ ys) p ≡ feedOf xs p
+    go zero e =
+        let passed = none-refused p e in
+        let line : isRefused (bytesFed xs p .line) ≡ true = subst (λ (f : PartFed). isOver f ≡ true) (feed-passed xs p passed) over in
+        feed-passed (xs ++ ys) p passed
+        ∙ ap (λ (q : Playing). record { refusal = 0; after = q }) (bytes-append xs ys p ∙ kept-out ys (bytesFed xs p .line) (bytesFed xs p .state) line)
+        ∙ sym (feed-passed xs p passed)
+    go (suc k) e = feed-refused (xs ++ ys) p k e ∙ sym (feed-refused xs p k e)
 
-    here : getD part at 0 ∷ drop (at + 1) part ≡ b ∷ bs
-    here = sym (drop-next part at (omega (arith, inside))) ∙ e
+-- ---- what it comes to
 
-    byte : getD part at 0 ≡ b
-    byte = cc here
+abbrev pub fedResult : PartFed → Replay
+fedResult f = unlessRefused (f .refusal) (resultOf (f .after))
 
-    behind : drop (at + 1) part ≡ bs
-    behind = cc here
+-- the whole text from the start
+pub text-replayed : (text m w : List ℕ) → fedResult (feedOf text (kept startOf m w)) ≡ replayOf text m w
+text-replayed text m w = ⊎-elim right wrong (by-lent m w)
+  where
+    right : Lent m w → fedResult (feedOf text (kept startOf m w)) ≡ replayOf text m w
+    right lent =
+        ap fedResult (feed-passed text (kept startOf m w) (record { fit = started-fit 0 m w (omega arith) lent; line-allowed = refl }))
+        ∙ text-fed m w lent text
+        ∙ sym (replay-lent text m w lent)
 
-    go :
-        (t : Bool) → eqb b newline ≡ t → Scan part (at + 1) (joinedTo l b) (scannedFrom (at + 1) bs (joinedTo l b))
-        → Scan part at l (cond t (record { line = l; at = at }) (scannedFrom (at + 1) bs (joinedTo l b)))
-    go true t rest = record { starts = omega arith; within = h; stops = λ i. byte ∙ eqb-true b newline t; leaves = λ s. refl }
-    go false t rest =
-        record {
-          starts = omega (arith, rest .starts);
-          within = rest .within;
-          stops = rest .stops;
-          leaves = λ s. byte-joins bs part at b l s e behind t ∙ rest .leaves s;
-        }
+    wrong : (Lent m w → ⊥) → fedResult (feedOf text (kept startOf m w)) ≡ replayOf text m w
+    wrong n = ap fedResult (feed-refused text (kept startOf m w) 0 (part-when (kept startOf m w) 1 n)) ∙ sym (replay-not-lent text m w n)
 
-pub scanned : (part : List ℕ) (at : ℕ) (l : Line) (r : Scanned) → r ≡ scannedFrom at (drop at part) l → at ≤ length part → Scan part at l r
-scanned part at l r e h = rw e (scans (drop at part) part at l refl h)
+fed-passed : (part : List ℕ) (p : Playing) (f : PartFed) → f ≡ feedOf part p → f .refusal ≡ 0 → Passed (f .after)
+fed-passed part p f e z = go (partRefusal p) refl
+  where
+    go : (k : ℕ) → partRefusal p ≡ k → Passed (f .after)
+    go zero q =
+        let passed = none-refused p q in
+        subst (λ (g : PartFed). Passed (g .after)) (sym (e ∙ feed-passed part p passed)) (stays-passed part p passed)
+    go (suc k) q =
+        let no : suc k ≡ 0 = ap (λ (g : PartFed). g .refusal) (sym (e ∙ feed-refused part p k q)) ∙ z in
+        absurd (omega arith)
 
--- the newline there, and what it leaves
-at-newline : (b : ℕ) (line : Line) (s : State) → b ≡ newline → fedByte b (fedAs line s) ≡ endedLine line s
-at-newline b line s n = simp (eq-eqb _ _ n)
-
-pub line-ends :
-    (part : List ℕ) (at : ℕ) (line : Line) (s : State) (f : Fed) → at < length part → getD part at 0 ≡ newline → f ≡ endedLine line s
-    → feedOf (drop (at + 1) part) f ≡ feedOf (drop at part) (fedAs line s)
-unfolding feedOf
-line-ends part at line s f h n e =
-    rw (drop-next part at h) (ap (λ (g : Fed). feedOf (drop (at + 1) part) g) (e ∙ sym (at-newline (getD part at 0) line s n)))
+-- the end of what was fed
+pub fed-end :
+    (part : List ℕ) (p : Playing) (k : ℕ) (c : Capture) (m w : List ℕ) → fed k c m w ≡ feedOf part p
+    → meaning (finishOf k c) m w ≡ fedResult (fed k c m w)
+unfolding finishOf meaning
+fed-end part p zero c m w h = rw (kept-none (kept c m w) (fed-passed part p (fed 0 c m w) h refl))
+fed-end part p (suc k) c m w h = refl

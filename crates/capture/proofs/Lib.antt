@@ -1,11 +1,8 @@
-pub mod Lines
-pub mod Feeds
-pub mod Answers
-pub mod Digits
-pub mod Pins
+pub mod CodeWays
+pub mod Refusals
 pub mod Whole
-pub mod Pieces
 pub mod Written
 pub mod Courses
-pub mod Ways
+pub mod Feeds
 pub mod Laws
+pub mod Wrong

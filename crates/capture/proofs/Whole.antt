@@ -3,7 +3,9 @@ use mathlib.Core.Path.{_≡_, refl, ap, _∙_}
 use mathlib.Core.Bool.{Bool, true, false, cond}
 use mathlib.Core.List.{List, [], _∷_, _++_, append-nil}
 use Prim.Native.Nat.{ℕ, zero, suc, _+_, _<_}
+use native.Mathlib.Nat.{add-zero}
 use native.Mathlib.Omega.{arith}
+use borrow.Author.Tests.{leb-true}
 use lib.Dec.{eqb, ltb}
 use lib.ListN.{length, getD}
 use lib.Seq.{append-snoc}
@@ -13,47 +15,54 @@ use Rattle.text.specs.declared.Number.the-variants.{Value, Malformed}
 use Rattle.text.specs.Decimal.{numberOf}
 use Rattle.text.specs.Text.{split, onFirst}
 use Rattle.text.proofs.Splitting.{split-some}
-use Rattle.engine.specs.Run.{unlessStopped, runFrom}
-use Rattle.chip.specs.Promised.{After, refusalOf, accepted}
-use Rattle.chip.proofs.LastWriter.{counts-accepted}
-use Rattle.chip.proofs.Laws as chip
-use Rattle.chip.proofs.Refusals.{accepted-step}
-use Rattle.capture.specs.declared.Line.{Line}
-use Rattle.capture.specs.declared.Line.the-variants.{First, Pins, Empty, Number, BadFirst, Bad}
-use Rattle.capture.specs.Feeding.{Fed, fedAs, isPins, afterAnswer, playedOn, joinedTo, endedLine, feedOf, endOf, meaning}
-use Rattle.capture.specs.Reading.{newline, word, Said, saidBy, alsoEvent}
-use Rattle.capture.specs.Replay.{Replay, refusedAt, started, outcomeOf, playFrom, withPins, replayLines, replayOf}
-use Rattle.capture.proofs.Answers.{answered}
-use Rattle.capture.proofs.Digits.{shown, ofNumber, join-shown}
-use Rattle.capture.proofs.Pins.{joinAll, join-all-one, pinsIn, pins-kept}
+use Rattle.chip.specs.Promised.{Fit, Outcome, runOf}
+use Rattle.chip.specs.RunOn.{moreDone}
+use Rattle.chip.specs.Runs.{onward}
+use Rattle.chip.proofs.Laws.{run-stays-fit}
+use Rattle.chip.proofs.RunOn.{run-none, run-then, run-counts}
+use Rattle.capture_lines.specs.declared.LineSoFar.{LineSoFar}
+use Rattle.capture_lines.specs.declared.LineSoFar.the-variants.{First, Pins, Empty, Number, BadFirst, Bad}
+use Rattle.capture_lines.specs.Line.{newline, word}
+use Rattle.capture_lines.specs.SoFar.{isPins, withByte, withBytes, pinsIn, ofNumber, eventLine}
+use Rattle.capture_lines.proofs.Digits.{event-line-kept}
+use Rattle.capture_lines.proofs.Laws.{first-line}
+use Rattle.capture_lines.proofs.Pins.{with-bytes-one}
+use Rattle.capture.specs.Feeding.{Playing, playing, lineAfter, played, endedLine, lineAllowed, bytesFed, endOf, meaning}
+use Rattle.capture.specs.Reading.{EventsRead, eventsOf, withEvent}
+use Rattle.capture.specs.Replay.{Replay, refusedAt, started, endedBy, replayBy, withPins, replayLines}
+use Rattle.capture.specs.Where.{Lent}
+use Rattle.capture.proofs.Refusals.{started-fit, with-bytes-allowed}
 
 -- what it comes to if nothing more is fed
-abbrev pub resultOf : Fed → Replay
-resultOf f = meaning (endOf (f .line) (f .state .chip)) (f .state .memory) (f .state .writers)
+abbrev pub resultOf : Playing → Replay
+resultOf p = meaning (endOf (p .line) (p .state .chip)) (p .state .memory) (p .state .writers)
 
--- ---- a refused capture stays refused
+-- what the lines say is played, n events being done
+abbrev pub playFrom : ℕ → EventsRead → State → Replay
+playFrom n l s = replayBy (moreDone n (runOf (l .events) s)) (l .all-good)
 
-either : (t : Bool) (f : Fed) → cond t f f ≡ f
-either true f = refl
-either false f = refl
+-- ---- a refused capture stays as it is
 
--- a refused capture stays as it is
-pub stuck : (xs : List ℕ) (s : State) → feedOf xs (fedAs Bad s) ≡ fedAs Bad s
-unfolding feedOf endedLine joinedTo
+either : (t : Bool) (p : Playing) → cond t p p ≡ p
+either true p = refl
+either false p = refl
+
+pub stuck : (xs : List ℕ) (s : State) → bytesFed xs (playing Bad s) ≡ playing Bad s
+unfolding bytesFed endedLine withByte
 stuck [] s = refl
-stuck (b ∷ xs) s = ap (λ (f : Fed). feedOf xs f) (either (eqb b newline) (fedAs Bad s)) ∙ stuck xs s
+stuck (b ∷ xs) s = ap (λ (p : Playing). bytesFed xs p) (either (eqb b newline) (playing Bad s)) ∙ stuck xs s
 
-pub stuck-first : (xs : List ℕ) (s : State) → feedOf xs (fedAs BadFirst s) ≡ fedAs BadFirst s
-unfolding feedOf endedLine joinedTo
+pub stuck-first : (xs : List ℕ) (s : State) → bytesFed xs (playing BadFirst s) ≡ playing BadFirst s
+unfolding bytesFed endedLine withByte
 stuck-first [] s = refl
-stuck-first (b ∷ xs) s = ap (λ (f : Fed). feedOf xs f) (either (eqb b newline) (fedAs BadFirst s)) ∙ stuck-first xs s
+stuck-first (b ∷ xs) s = ap (λ (p : Playing). bytesFed xs p) (either (eqb b newline) (playing BadFirst s)) ∙ stuck-first xs s
 
 -- at the line after the events that are counted
-bad-line : (xs : List ℕ) (s : State) → resultOf (feedOf xs (fedAs Bad s)) ≡ refusedAt (s .chip .count + 2) s
+bad-line : (xs : List ℕ) (s : State) → resultOf (bytesFed xs (playing Bad s)) ≡ refusedAt (s .chip .count + 2) s
 unfolding meaning
 bad-line xs s = ap resultOf (stuck xs s)
 
-bad-first : (xs : List ℕ) (s : State) → resultOf (feedOf xs (fedAs BadFirst s)) ≡ refusedAt 1 (started 0 (s .memory) (s .writers))
+bad-first : (xs : List ℕ) (s : State) → resultOf (bytesFed xs (playing BadFirst s)) ≡ refusedAt 1 (started 0 (s .memory) (s .writers))
 unfolding meaning
 bad-first xs s = ap resultOf (stuck-first xs s)
 
@@ -64,115 +73,128 @@ abbrev onto : List ℕ → List (List ℕ) → List (List ℕ)
 onto p [] = p ∷ []
 onto p (q ∷ qs) = (p ++ q) ∷ qs
 
--- a newline behind a line, whatever the lines behind it come to
-module _ (bs : List ℕ) (rest : Said) (h : (s : State) → resultOf (feedOf bs (fedAs Empty s)) ≡ playFrom (s .chip .count) rest s) (s : State) where
-  event-ended : (e : ℕ) → resultOf (feedOf bs (playedOn e s)) ≡ playFrom (s .chip .count) (alsoEvent (Value e) rest) s
-  unfolding runFrom
-  event-ended e = go (refusalOf e s) refl
-    where
-      go :
-          (k : ℕ) → refusalOf e s ≡ k
-          → resultOf (feedOf bs (playedOn e s))
-          ≡ outcomeOf (unlessStopped k (s .chip .count) s (runFrom (s .chip .count + 1) (rest .events) (accepted e s .state))) (rest .whole)
-      go zero q =
-          ap (λ (a : After). resultOf (feedOf bs (fedAs (afterAnswer (a .answer)) (a .state)))) (accepted-step e s q)
-          ∙ ap (λ (l : Line). resultOf (feedOf bs (fedAs l (accepted e s .state)))) (answered e s)
-          ∙ h (accepted e s .state)
-          ∙ ap (λ (n : ℕ). playFrom n rest (accepted e s .state)) (counts-accepted e s)
-      go (suc k) q =
-          ap (λ (a : After). resultOf (feedOf bs (fedAs (afterAnswer (a .answer)) (a .state)))) (chip.refused e s k q) ∙ bad-line bs s
+-- no event is left
+pub none-left : (n : ℕ) (t : Bool) (s : State) → Fit s → replayBy (moreDone n (runOf [] s)) t ≡ endedBy 0 t n s
+none-left n t s fit = rw (run-none s fit, add-zero)
 
-  line-ended : (p : List ℕ) → resultOf (feedOf bs (endedLine (shown p) s)) ≡ playFrom (s .chip .count) (alsoEvent (numberOf p) rest) s
-  unfolding endedLine numberOf runFrom
-  line-ended [] = bad-line bs s
+-- a newline behind a line, whatever the lines behind it come to
+module _ (bs : List ℕ) (rest : EventsRead)
+    (h : (s : State) → Fit s → resultOf (bytesFed bs (playing Empty s)) ≡ playFrom (s .chip .count) rest s) (s : State) (fit : Fit s) where
+  -- o is what the event leaves
+  outcome-ended :
+      (o : Outcome) → Fit (o .state) → o .state .chip .count ≡ s .chip .count + o .done → (k : ℕ) → o .refusal ≡ k
+      → resultOf (bytesFed bs (playing (lineAfter k) (o .state)))
+      ≡ replayBy (moreDone (s .chip .count) (onward k o (moreDone (o .done) (runOf (rest .events) (o .state))))) (rest .all-good)
+  outcome-ended o fit′ counted zero q =
+      let r : Outcome = runOf (rest .events) (o .state) in
+      h (o .state) fit′
+      ∙ ap (λ (n : ℕ). endedBy (r .refusal) (rest .all-good) n (r .state)) (omega (arith, counted))
+  outcome-ended o fit′ counted (suc k) q = bad-line bs (o .state) ∙ rw (q, counted)
+
+  event-ended : (e : ℕ) → resultOf (bytesFed bs (played (runOf (e ∷ []) s))) ≡ playFrom (s .chip .count) (withEvent (Value e) rest) s
+  event-ended e =
+      outcome-ended (runOf (e ∷ []) s) (run-stays-fit (e ∷ []) s fit) (run-counts (e ∷ []) s) (runOf (e ∷ []) s .refusal) refl
+      ∙ rw (run-then (e ∷ []) (rest .events) s)
+
+  line-ended : (p : List ℕ) → resultOf (bytesFed bs (endedLine (eventLine p) s)) ≡ playFrom (s .chip .count) (withEvent (numberOf p) rest) s
+  unfolding endedLine numberOf
+  line-ended [] = bad-line bs s ∙ rw (none-left (s .chip .count) false s fit)
   line-ended (x ∷ p) = go (numberOf (x ∷ p))
     where
-      go : (v : numbers.Number) → resultOf (feedOf bs (endedLine (ofNumber v) s)) ≡ playFrom (s .chip .count) (alsoEvent v rest) s
-      go Malformed = bad-line bs s
+      go : (v : numbers.Number) → resultOf (bytesFed bs (endedLine (ofNumber v) s)) ≡ playFrom (s .chip .count) (withEvent v rest) s
+      go Malformed = bad-line bs s ∙ rw (none-left (s .chip .count) false s fit)
       go (Value e) = event-ended e
 
 -- no newline follows
-line-left : (p : List ℕ) (s : State) → resultOf (fedAs (shown p) s) ≡ playFrom (s .chip .count) (saidBy ((p ++ []) ∷ [])) s
-unfolding meaning runFrom
-line-left [] s = refl
-line-left (x ∷ p) s = go (numberOf (x ∷ p))
+line-left : (p : List ℕ) (s : State) → Fit s → resultOf (playing (eventLine p) s) ≡ playFrom (s .chip .count) (eventsOf ((p ++ []) ∷ [])) s
+unfolding meaning
+line-left [] s fit = rw (none-left (s .chip .count) true s fit)
+line-left (x ∷ p) s fit = go (numberOf (x ∷ p)) ∙ rw (none-left (s .chip .count) false s fit)
   where
-    go : (v : numbers.Number) → resultOf (fedAs (ofNumber v) s) ≡ refusedAt (s .chip .count + 2) s
+    go : (v : numbers.Number) → resultOf (playing (ofNumber v) s) ≡ refusedAt (s .chip .count + 2) s
     go Malformed = refl
     go (Value e) = refl
 
-events-fed : (xs p : List ℕ) (s : State) → resultOf (feedOf xs (fedAs (shown p) s)) ≡ playFrom (s .chip .count) (saidBy (onto p (split newline xs))) s
-unfolding feedOf
-events-fed [] p s = line-left p s
-events-fed (b ∷ bs) p s = go (eqb b newline) (split newline bs) (split-some newline bs) (λ q t. events-fed bs q t)
+events-fed :
+    (xs p : List ℕ) (s : State) → Fit s
+    → resultOf (bytesFed xs (playing (eventLine p) s)) ≡ playFrom (s .chip .count) (eventsOf (onto p (split newline xs))) s
+unfolding bytesFed
+events-fed [] p s fit = line-left p s fit
+events-fed (b ∷ bs) p s fit = go (eqb b newline) (split newline bs) (split-some newline bs) (λ q t f. events-fed bs q t f)
   where
     go :
         (t : Bool) (qs : List (List ℕ)) → 0 < length qs
-        → ((q : List ℕ) (s′ : State) → resultOf (feedOf bs (fedAs (shown q) s′)) ≡ playFrom (s′ .chip .count) (saidBy (onto q qs)) s′)
-        → resultOf (feedOf bs (cond t (endedLine (shown p) s) (fedAs (joinedTo (shown p) b) s)))
-        ≡ playFrom (s .chip .count) (saidBy (onto p (cond t ([] ∷ qs) (onFirst b qs)))) s
+        → ((q : List ℕ) (s′ : State) → Fit s′ → resultOf (bytesFed bs (playing (eventLine q) s′)) ≡ playFrom (s′ .chip .count) (eventsOf (onto q qs)) s′)
+        → resultOf (bytesFed bs (cond t (endedLine (eventLine p) s) (playing (withByte (eventLine p) b) s)))
+        ≡ playFrom (s .chip .count) (eventsOf (onto p (cond t ([] ∷ qs) (onFirst b qs)))) s
     go t [] l h = absurd (omega arith)
-    go true (q ∷ qs) l h = rw (append-nil p) (line-ended bs (saidBy (q ∷ qs)) (λ s′. h [] s′) s p)
-    go false (q ∷ qs) l h = rw (join-shown p b) (h (p ++ b ∷ []) s ∙ rw (append-snoc p b q))
+    go true (q ∷ qs) l h = rw (append-nil p) (line-ended bs (eventsOf (q ∷ qs)) (λ s′ f. h [] s′ f) s fit p)
+    go false (q ∷ qs) l h = rw (event-line-kept p b) (h (p ++ b ∷ []) s fit ∙ rw (append-snoc p b q))
 
 -- ---- the first line
 
 -- it stays the first until its newline
-data IsFirst : Line → Type 0 where
+data IsFirst : LineSoFar → Type 0 where
   first : {k : ℕ} → IsFirst (First k)
   pins : {p : ℕ} → IsFirst (Pins p)
   bad : IsFirst BadFirst
 
-either-first : (t : Bool) (k l : Line) → IsFirst k → IsFirst l → IsFirst (cond t k l)
+either-first : (t : Bool) (k l : LineSoFar) → IsFirst k → IsFirst l → IsFirst (cond t k l)
 either-first true k l i j = i
 either-first false k l i j = j
 
-joined-first : {l : Line} (b : ℕ) → IsFirst l → IsFirst (joinedTo l b)
-unfolding joinedTo
+joined-first : {l : LineSoFar} (b : ℕ) → IsFirst l → IsFirst (withByte l b)
+unfolding withByte
 joined-first b (first {k}) = either-first (ltb k 5) _ _ (either-first (eqb b (getD word k 0)) _ _ first bad) (either-first (isPins b) _ _ pins bad)
 joined-first b pins = bad
 joined-first b bad = bad
 
-all-first : (p : List ℕ) {l : Line} → IsFirst l → IsFirst (joinAll l p)
+all-first : (p : List ℕ) {l : LineSoFar} → IsFirst l → IsFirst (withBytes l p)
 all-first [] i = i
 all-first (b ∷ p) i = all-first p (joined-first b i)
 
--- the first line without a newline, and with one
-first-left : {l : Line} (m w : List ℕ) → IsFirst l → resultOf (fedAs l (started 0 m w)) ≡ refusedAt 1 (started 0 m w)
-unfolding meaning
-first-left m w first = refl
-first-left m w pins = refl
-first-left m w bad = refl
+module _ (m w : List ℕ) (lent : Lent m w) where
+  -- the first line without a newline, and with one
+  first-left : {l : LineSoFar} → IsFirst l → resultOf (playing l (started 0 m w)) ≡ refusedAt 1 (started 0 m w)
+  unfolding meaning
+  first-left first = refl
+  first-left pins = refl
+  first-left bad = refl
 
-first-ended :
-    {l : Line} (bs q : List ℕ) (qs : List (List ℕ)) (m w : List ℕ) → IsFirst l → split newline bs ≡ q ∷ qs
-    → resultOf (feedOf bs (endedLine l (started 0 m w))) ≡ withPins (pinsIn l) (saidBy (q ∷ qs)) m w
-unfolding endedLine
-first-ended bs q qs m w first e = bad-first bs (started 0 m w)
-first-ended bs q qs m w (pins {p}) e = events-fed bs [] (started p m w) ∙ rw e
-first-ended bs q qs m w bad e = bad-first bs (started 0 m w)
+  first-ended :
+      {l : LineSoFar} (bs q : List ℕ) (qs : List (List ℕ)) → IsFirst l → lineAllowed l ≡ true → split newline bs ≡ q ∷ qs
+      → resultOf (bytesFed bs (endedLine l (started 0 m w))) ≡ withPins (pinsIn l) (eventsOf (q ∷ qs)) m w
+  unfolding endedLine
+  first-ended bs q qs first a e = bad-first bs (started 0 m w)
+  first-ended bs q qs (pins {p}) a e =
+      events-fed bs [] (started p m w) (started-fit p m w (leb-true p 3 a) lent) ∙ rw e (from-zero (runOf (eventsOf (q ∷ qs) .events) (started p m w)))
+    where
+      from-zero : (o : Outcome) → replayBy (moreDone 0 o) (eventsOf (q ∷ qs) .all-good) ≡ replayBy o (eventsOf (q ∷ qs) .all-good)
+      from-zero o = ap (λ (n : ℕ). endedBy (o .refusal) (eventsOf (q ∷ qs) .all-good) n (o .state)) (omega arith)
+  first-ended bs q qs bad a e = bad-first bs (started 0 m w)
 
-first-fed :
-    (xs p m w : List ℕ)
-    → resultOf (feedOf xs (fedAs (joinAll (First 0) p) (started 0 m w))) ≡ replayLines (onto p (split newline xs)) m w
-unfolding feedOf
-first-fed [] p m w = first-left m w (all-first p first)
-first-fed (b ∷ bs) p m w = go (eqb b newline) (split newline bs) refl (split-some newline bs) (λ q. first-fed bs q m w)
-  where
-    go :
-        (t : Bool) (qs : List (List ℕ)) → split newline bs ≡ qs → 0 < length qs
-        → ((q : List ℕ) → resultOf (feedOf bs (fedAs (joinAll (First 0) q) (started 0 m w))) ≡ replayLines (onto q qs) m w)
-        → resultOf (feedOf bs (cond t (endedLine (joinAll (First 0) p) (started 0 m w)) (fedAs (joinedTo (joinAll (First 0) p) b) (started 0 m w))))
-        ≡ replayLines (onto p (cond t ([] ∷ qs) (onFirst b qs))) m w
-    go t [] e l h = absurd (omega arith)
-    go true (q ∷ qs) e l h =
-        first-ended bs q qs m w (all-first p first) e ∙ rw (pins-kept p, append-nil p)
-    go false (q ∷ qs) e l h = rw (← join-all-one (First 0) p b) (h (p ++ b ∷ []) ∙ ap (λ (l : List ℕ). replayLines (l ∷ qs) m w) (append-snoc p b q))
+  first-fed :
+      (xs p : List ℕ) → resultOf (bytesFed xs (playing (withBytes (First 0) p) (started 0 m w))) ≡ replayLines (onto p (split newline xs)) m w
+  unfolding bytesFed
+  first-fed [] p = first-left (all-first p first)
+  first-fed (b ∷ bs) p = go (eqb b newline) (split newline bs) refl (split-some newline bs) (λ q. first-fed bs q)
+    where
+      go :
+          (t : Bool) (qs : List (List ℕ)) → split newline bs ≡ qs → 0 < length qs
+          → ((q : List ℕ) → resultOf (bytesFed bs (playing (withBytes (First 0) q) (started 0 m w))) ≡ replayLines (onto q qs) m w)
+          → resultOf
+          (bytesFed bs
+          (cond t (endedLine (withBytes (First 0) p) (started 0 m w)) (playing (withByte (withBytes (First 0) p) b) (started 0 m w))))
+          ≡ replayLines (onto p (cond t ([] ∷ qs) (onFirst b qs))) m w
+      go t [] e l h = absurd (omega arith)
+      go true (q ∷ qs) e l h =
+          first-ended bs q qs (all-first p first) (with-bytes-allowed (First 0) p refl) e ∙ rw (first-line p, append-nil p)
+      go false (q ∷ qs) e l h =
+          rw (← with-bytes-one (First 0) p b) (h (p ++ b ∷ []) ∙ ap (λ (l : List ℕ). replayLines (l ∷ qs) m w) (append-snoc p b q))
 
-pub text-fed : (text m w : List ℕ) → resultOf (feedOf text (fedAs (First 0) (started 0 m w))) ≡ replayOf text m w
-unfolding replayOf
-text-fed text m w = first-fed text [] m w ∙ go (split newline text) (split-some newline text)
-  where
-    go : (qs : List (List ℕ)) → 0 < length qs → replayLines (onto [] qs) m w ≡ replayLines qs m w
-    go [] l = absurd (omega arith)
-    go (q ∷ qs) l = refl
+  pub text-fed : (text : List ℕ) → resultOf (bytesFed text (playing (First 0) (started 0 m w))) ≡ replayLines (split newline text) m w
+  text-fed text = first-fed text [] ∙ go (split newline text) (split-some newline text)
+    where
+      go : (qs : List (List ℕ)) → 0 < length qs → replayLines (onto [] qs) m w ≡ replayLines qs m w
+      go [] l = absurd (omega arith)
+      go (q ∷ qs) l = refl

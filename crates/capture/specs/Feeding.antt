@@ -1,115 +1,130 @@
--- A capture byte by byte: what is kept of the present line, and what a newline does. proofs/Laws.antt holds it against `replayOf`.
-use mathlib.Core.Bool.{Bool, cond, _&&_}
+-- A capture part by part: what is kept between parts, and what a newline does. proofs/Laws.antt holds it against `replayOf`.
+use mathlib.Core.Bool.{Bool, true, cond, not, _&&_, _||_}
 use mathlib.Core.List.{List, [], _∷_, _++_}
-use mathlib.Core.Path.{_≡_}
-use Prim.Native.Nat.{ℕ, _+_, _*_, _-_}
-use lib.Dec.{eqb, leb, ltb}
-use lib.ListN.{getD, drop}
+use Prim.Native.Nat.{ℕ, zero, suc, _+_}
+use lib.Dec.{eqb, leb}
+use lib.ListN.{length}
 use Rattle.registers.specs.declared.Chip.{Chip}
-use Rattle.registers.specs.Record.{resetChip}
+use Rattle.registers.specs.Record.{allowed, resetChip}
+use Rattle.registers.specs.Refusals.{refuse, _then_, lengthsRefusal}
 use Rattle.registers.specs.State.{State, state}
-use Rattle.chip.specs.Promised.{Answer, Refused, Nothing, Acknowledged, NotAcknowledged, Read, stepOf}
-use Rattle.text.specs.Decimal.{isDigit, digitValue}
-use Rattle.capture.specs.declared.Line.{Line}
-use Rattle.capture.specs.declared.Line.the-variants.{First, Pins, Empty, Number, BadFirst, Bad}
-use Rattle.capture.specs.declared.bytes.Scanned.{Scanned}
+use Rattle.chip.specs.Promised.{Outcome, runOf}
+use Rattle.capture_lines.specs.declared.LineSoFar.{LineSoFar}
+use Rattle.capture_lines.specs.declared.LineSoFar.the-variants.{First, Pins, Empty, Number, BadFirst, Bad}
+use Rattle.capture_lines.specs.Line.{newline}
+use Rattle.capture_lines.specs.SoFar.{withByte, isRefused}
 use Rattle.capture.specs.declared.Capture.{Capture}
 use Rattle.capture.specs.declared.End.{End}
 use Rattle.capture.specs.declared.End.the-variants as ends
-use Rattle.capture.specs.Reading.{newline, word}
-use Rattle.capture.specs.Replay.{Replay, refusedAt, replayed, started}
+use Rattle.capture.specs.Replay.{Replay, refusedBy, refusedAt, replayed, started}
 
 -- the present line, and the chip with the two lent memories
-pub record Fed : Type 0 where
-  pub line : Line
+pub record Playing : Type 0 where
+  pub line : LineSoFar
   pub state : State
 
-abbrev pub fed : Capture → List ℕ → List ℕ → Fed
-fed c m w = record { line = c .line; state = Rattle.registers.specs.State.state (c .chip) m w }
+abbrev pub playing : LineSoFar → State → Playing
+playing l s = record { line = l; state = s }
 
-abbrev pub fedAs : Line → State → Fed
-fedAs l s = record { line = l; state = s }
+abbrev pub kept : Capture → List ℕ → List ℕ → Playing
+kept c m w = playing (c .line) (state (c .chip) m w)
 
 abbrev pub startOf : Capture
 startOf = record { chip = resetChip 0; line = First 0 }
 
--- ---- a byte that is no newline
-
--- 0 to 3
-abbrev pub isPins : ℕ → Bool
-isPins b = leb 48 b && leb b 51
-
-abbrev pub onWord : ℕ → ℕ → Line
-onWord k b =
-    cond (ltb k 5) (cond (eqb b (getD word k 0)) (First (k + 1)) BadFirst)
-    (cond (isPins b) (Pins (digitValue b)) BadFirst)
-
-abbrev pub onDigit : ℕ → Line
-onDigit b = cond (isDigit b) (Number (digitValue b)) Bad
-
--- no digit follows a 0, and none a number of three digits
-abbrev pub goesOn : ℕ → Bool
-goesOn n = ltb 0 n && ltb n 100
-
-abbrev pub onNumber : ℕ → ℕ → Line
-onNumber n b = cond (goesOn n && isDigit b) (Number (n * 10 + digitValue b)) Bad
-
-unfoldable pub joinedTo : Line → ℕ → Line
-joinedTo (First k) b = onWord k b
-joinedTo (Pins p) b = BadFirst
-joinedTo Empty b = onDigit b
-joinedTo (Number n) b = onNumber n b
-joinedTo BadFirst b = BadFirst
-joinedTo Bad b = Bad
-
--- a line with the bytes up to the next newline, the first of them at a place, and the place where that ends
-unfoldable pub scannedFrom : ℕ → List ℕ → Line → Scanned
-scannedFrom at [] l = record { line = l; at = at }
-scannedFrom at (b ∷ bs) l = cond (eqb b newline) (record { line = l; at = at }) (scannedFrom (at + 1) bs (joinedTo l b))
-
--- scanned as far as r: what is left to scan comes to the same
-abbrev pub Onward : List ℕ → ℕ → Line → Scanned → Type 0
-Onward part from l r = scannedFrom (r .at) (drop (r .at) part) (r .line) ≡ scannedFrom from (drop from part) l
-
 -- ---- a newline
 
-abbrev pub afterAnswer : Answer → Line
-afterAnswer (Refused n) = Bad
-afterAnswer Nothing = Empty
-afterAnswer Acknowledged = Empty
-afterAnswer NotAcknowledged = Empty
-afterAnswer (Read b) = Empty
+-- the line after an event's: none after one that was refused
+abbrev pub lineAfter : ℕ → LineSoFar
+lineAfter zero = Empty
+lineAfter (suc k) = Bad
 
-abbrev pub playedOn : ℕ → State → Fed
-playedOn e s = fedAs (afterAnswer (stepOf e s .answer)) (stepOf e s .state)
+-- one event is played
+abbrev pub played : Outcome → Playing
+played o = playing (lineAfter (o .refusal)) (o .state)
 
-unfoldable pub endedLine : Line → State → Fed
-endedLine (First k) s = fedAs BadFirst s
-endedLine (Pins p) s = fedAs Empty (started p (s .memory) (s .writers))
-endedLine Empty s = fedAs Bad s
-endedLine (Number e) s = playedOn e s
-endedLine BadFirst s = fedAs BadFirst s
-endedLine Bad s = fedAs Bad s
+unfoldable pub endedLine : LineSoFar → State → Playing
+endedLine (First k) s = playing BadFirst s
+endedLine (Pins p) s = playing Empty (started p (s .memory) (s .writers))
+endedLine Empty s = playing Bad s
+endedLine (Number e) s = played (runOf (e ∷ []) s)
+endedLine BadFirst s = playing BadFirst s
+endedLine Bad s = playing Bad s
 
--- ---- bytes, and the end
+-- ---- bytes
 
-abbrev pub fedByte : ℕ → Fed → Fed
-fedByte b f = cond (eqb b newline) (endedLine (f .line) (f .state)) (fedAs (joinedTo (f .line) b) (f .state))
+abbrev pub withNext : ℕ → Playing → Playing
+withNext b p = cond (eqb b newline) (endedLine (p .line) (p .state)) (playing (withByte (p .line) b) (p .state))
 
-unfoldable pub feedOf : List ℕ → Fed → Fed
-feedOf [] f = f
-feedOf (b ∷ bs) f = feedOf bs (fedByte b f)
+unfoldable pub bytesFed : List ℕ → Playing → Playing
+bytesFed [] p = p
+bytesFed (b ∷ bs) p = bytesFed bs (withNext b p)
 
--- part after part
-abbrev pub feedParts : List (List ℕ) → Fed → Fed
-feedParts [] f = f
-feedParts (p ∷ ps) f = feedParts ps (feedOf p f)
+-- ---- a part
+
+-- the pins of the first line, once they are read, are 0 to 3
+abbrev pub lineAllowed : LineSoFar → Bool
+lineAllowed (First k) = true
+lineAllowed (Pins p) = leb p 3
+lineAllowed Empty = true
+lineAllowed (Number n) = true
+lineAllowed BadFirst = true
+lineAllowed Bad = true
+
+abbrev pub captureAllowed : LineSoFar → Chip → Bool
+captureAllowed l c = allowed c && lineAllowed l
+
+-- 2: the chip that was kept, or the one that the pins of the line will give, is not allowed
+abbrev pub keptRefusal : LineSoFar → Chip → ℕ
+keptRefusal l c = refuse (not (captureAllowed l c)) 2
+
+-- 1: a lent memory isn't 1,717 long; then 2
+abbrev pub partRefusal : Playing → ℕ
+partRefusal p = lengthsRefusal (length (p .state .memory)) (length (p .state .writers)) then keptRefusal (p .line) (p .state .chip)
+
+-- the number of the refusal, 0 being none, and what is kept then, with the memories
+pub record PartFed : Type 0 where
+  pub refusal : ℕ
+  pub after : Playing
+
+abbrev pub fed : ℕ → Capture → List ℕ → List ℕ → PartFed
+fed k c m w = record { refusal = k; after = kept c m w }
+
+-- a refused part changes nothing
+abbrev pub fedUnless : ℕ → Playing → Playing → PartFed
+fedUnless zero next p = record { refusal = 0; after = next }
+fedUnless (suc k) next p = record { refusal = suc k; after = p }
+
+unfoldable pub feedOf : List ℕ → Playing → PartFed
+feedOf part p = fedUnless (partRefusal p) (bytesFed part p) p
+
+-- f where it was refused, else the part that follows
+abbrev pub nextUnless : ℕ → PartFed → PartFed → PartFed
+nextUnless zero f next = next
+nextUnless (suc k) f next = f
+
+abbrev pub thenFed : PartFed → List ℕ → PartFed
+thenFed f part = nextUnless (f .refusal) f (feedOf part (f .after))
+
+-- a part, and those after it
+abbrev pub feedParts : PartFed → List (List ℕ) → PartFed
+feedParts f [] = f
+feedParts f (p ∷ ps) = feedParts (thenFed f p) ps
 
 abbrev pub allParts : List (List ℕ) → List ℕ
 allParts [] = []
 allParts (p ∷ ps) = p ++ allParts ps
 
-abbrev pub endOf : Line → Chip → End
+-- nothing that follows changes it: it was refused by a number, or at a line
+abbrev pub isOverAt : ℕ → LineSoFar → Bool
+isOverAt k l = not (eqb k 0) || isRefused l
+
+abbrev pub isOver : PartFed → Bool
+isOver f = isOverAt (f .refusal) (f .after .line)
+
+-- ---- the end
+
+abbrev pub endOf : LineSoFar → Chip → End
 endOf (First k) c = ends.BadFirst
 endOf (Pins p) c = ends.BadFirst
 endOf Empty c = ends.Whole c
@@ -117,11 +132,17 @@ endOf (Number n) c = ends.Bad c
 endOf BadFirst c = ends.BadFirst
 endOf Bad c = ends.Bad c
 
-unfoldable pub finishOf : Capture → End
-finishOf c = endOf (c .line) (c .chip)
+abbrev pub endUnless : ℕ → End → End
+endUnless zero e = e
+endUnless (suc k) e = ends.Refused (suc k)
+
+-- a line that is not ended by its newline is bad. k is the refusal of the last part, 0 being none; then 2 where what was kept is not allowed
+unfoldable pub finishOf : ℕ → Capture → End
+finishOf k c = endUnless (k then keptRefusal (c .line) (c .chip)) (endOf (c .line) (c .chip))
 
 -- what an end says, with the memories as they are then. The line of a bad event is count + 2, whatever the width of the count
 unfoldable pub meaning : End → List ℕ → List ℕ → Replay
+meaning (ends.Refused k) m w = refusedBy k
 meaning ends.BadFirst m w = refusedAt 1 (started 0 m w)
 meaning (ends.Bad c) m w = refusedAt (c .count + 2) (state c m w)
 meaning (ends.Whole c) m w = replayed (state c m w)

@@ -2,15 +2,20 @@
 use mathlib.Core.Bool.{Bool, true, false}
 use mathlib.Core.List.{List, [], _∷_}
 use Prim.Native.Nat.{ℕ, zero, suc, _+_}
+use lib.ListN.{length}
 use Rattle.registers.specs.Record.{resetChip}
+use Rattle.registers.specs.Refusals.{lengthsRefusal}
 use Rattle.registers.specs.State.{State, state}
 use Rattle.text.specs.declared.Number.{Number}
 use Rattle.text.specs.declared.Number.the-variants.{Value, Malformed}
 use Rattle.text.specs.Text.{split}
-use Rattle.chip.specs.Promised.{Outcome, runFrom}
-use Rattle.capture.specs.Reading.{newline, Said, saidBy, pinsOf}
+use Rattle.chip.specs.Promised.{Outcome, runOf}
+use Rattle.capture_lines.specs.Line.{newline, pinsOf}
+use Rattle.capture.specs.Reading.{EventsRead, eventsOf}
 
 pub data Replay : Type 0 where
+  -- no event is played: 1, a lent memory isn't 1,717 long; 2, what was kept of a capture is not allowed
+  refusedBy : (number : ℕ) → Replay
   -- the first bad line or refused event, by its line from 1, and what the events before it left
   refusedAt : (line : ℕ) → State → Replay
   replayed : State → Replay
@@ -19,28 +24,29 @@ pub data Replay : Type 0 where
 abbrev pub started : ℕ → List ℕ → List ℕ → State
 started pins m w = state (resetChip pins) m w
 
--- n events were done, the run was stopped or not, and no bad line follows them or one does. The first event stands in line 2
-abbrev pub judged : ℕ → Bool → ℕ → State → Replay
-judged zero true n s = replayed s
-judged zero false n s = refusedAt (n + 2) s
-judged (suc k) whole n s = refusedAt (n + 2) s
+-- the run over the events was stopped by a refusal or not, and no bad line follows them or one does. The first event stands in line 2
+abbrev pub endedBy : ℕ → Bool → ℕ → State → Replay
+endedBy zero true done s = replayed s
+endedBy zero false done s = refusedAt (done + 2) s
+endedBy (suc k) all-good done s = refusedAt (done + 2) s
 
-abbrev pub outcomeOf : Outcome → Bool → Replay
-outcomeOf o whole = judged (o .refusal) whole (o .done) (o .state)
-
--- what the lines say is played, n events being done
-abbrev pub playFrom : ℕ → Said → State → Replay
-playFrom n l s = outcomeOf (runFrom n (l .events) s) (l .whole)
+abbrev pub replayBy : Outcome → Bool → Replay
+replayBy o all-good = endedBy (o .refusal) all-good (o .done) (o .state)
 
 -- a bad first line says nothing of the pins
-abbrev pub withPins : Number → Said → List ℕ → List ℕ → Replay
+abbrev pub withPins : Number → EventsRead → List ℕ → List ℕ → Replay
 withPins Malformed l m w = refusedAt 1 (started 0 m w)
-withPins (Value pins) l m w = playFrom 0 l (started pins m w)
+withPins (Value pins) l m w = replayBy (runOf (l .events) (started pins m w)) (l .all-good)
 
 abbrev pub replayLines : List (List ℕ) → List ℕ → List ℕ → Replay
 replayLines [] m w = refusedAt 1 (started 0 m w)
 replayLines (p ∷ []) m w = refusedAt 1 (started 0 m w)
-replayLines (p ∷ q ∷ ps) m w = withPins (pinsOf p) (saidBy (q ∷ ps)) m w
+replayLines (p ∷ q ∷ ps) m w = withPins (pinsOf p) (eventsOf (q ∷ ps)) m w
+
+-- refused by a number, 0 being none, or what else comes
+abbrev pub unlessRefused : ℕ → Replay → Replay
+unlessRefused zero r = r
+unlessRefused (suc k) r = refusedBy (suc k)
 
 unfoldable pub replayOf : List ℕ → List ℕ → List ℕ → Replay
-replayOf text m w = replayLines (split newline text) m w
+replayOf text m w = unlessRefused (lengthsRefusal (length m) (length w)) (replayLines (split newline text) m w)

@@ -1,61 +1,59 @@
 // A newline: the line is whole, and its event is played.
+ghost use mathlib.Core.List.{[], _∷_};
 ghost use mathlib.Core.Path.{_≡_};
 ghost use Rattle.registers.specs.State.{state};
-ghost use Rattle.capture.specs.Feeding.{fed, afterAnswer, playedOn, endedLine};
+ghost use Rattle.chip.specs.Promised.{runOf};
+ghost use Rattle.capture.specs.Feeding.{kept, lineAfter, played, endedLine};
 use crate::Capture;
-use crate::Line;
-use engine::answer::Answer;
+use capture_lines::LineSoFar;
 use registers::Chip;
 
 // The line after an event's: none after one that was refused.
-fn after_answer(answer: Answer) -> Line
-    ensures { λ r. ⌜ r ≡ afterAnswer answer ⌝ }
+fn line_after(refusal: u8) -> LineSoFar
+    ensures { λ r. ⌜ r ≡ lineAfter refusal ⌝ }
 {
-    match answer {
-        Answer::Refused(_) => Line::Bad,
-        Answer::Nothing => Line::Empty,
-        Answer::Acknowledged => Line::Empty,
-        Answer::NotAcknowledged => Line::Empty,
-        Answer::Read(_) => Line::Empty,
+    if refusal == 0 {
+        return LineSoFar::Empty;
     }
+    LineSoFar::Bad
 }
 
 fn play(event: u16, chip: Chip, memory: &mut [u8], writers: &mut [u64]) -> Capture
-    ensures { λ r. ⌜ fed r (now (memory .exit)) (now (writers .exit)) ≡ playedOn event (state chip (now (memory .entry)) (now (writers .entry))) ⌝ }
+    ensures { λ r. ⌜ kept r (now (memory .exit)) (now (writers .exit)) ≡ played (runOf (event ∷ []) (state chip (now (memory .entry)) (now (writers .entry)))) ⌝ }
 {
-    let stepped = engine::step::step(event, chip, memory, writers);
-    let answer = stepped.answer;
-    let after = stepped.chip;
+    let events = [event];
+    let ran = engine::run::run(chip, memory, writers, &events);
+    let after = ran.chip;
     Capture {
         chip: after,
-        line: after_answer(answer),
+        line: line_after(ran.refusal),
     }
 }
 
-pub fn end_line(chip: Chip, line: Line, memory: &mut [u8], writers: &mut [u64]) -> Capture
-    ensures { λ r. ⌜ fed r (now (memory .exit)) (now (writers .exit)) ≡ endedLine line (state chip (now (memory .entry)) (now (writers .entry))) ⌝ }
+pub fn end_line(chip: Chip, line: LineSoFar, memory: &mut [u8], writers: &mut [u64]) -> Capture
+    ensures { λ r. ⌜ kept r (now (memory .exit)) (now (writers .exit)) ≡ endedLine line (state chip (now (memory .entry)) (now (writers .entry))) ⌝ }
 {
     match line {
-        Line::First(_) => Capture {
+        LineSoFar::First(_) => Capture {
             chip,
-            line: Line::BadFirst,
+            line: LineSoFar::BadFirst,
         },
-        Line::Pins(pins) => Capture {
+        LineSoFar::Pins(pins) => Capture {
             chip: Chip::reset(pins),
-            line: Line::Empty,
+            line: LineSoFar::Empty,
         },
-        Line::Empty => Capture {
+        LineSoFar::Empty => Capture {
             chip,
-            line: Line::Bad,
+            line: LineSoFar::Bad,
         },
-        Line::Number(event) => play(event, chip, memory, writers),
-        Line::BadFirst => Capture {
+        LineSoFar::Number(event) => play(event, chip, memory, writers),
+        LineSoFar::BadFirst => Capture {
             chip,
-            line: Line::BadFirst,
+            line: LineSoFar::BadFirst,
         },
-        Line::Bad => Capture {
+        LineSoFar::Bad => Capture {
             chip,
-            line: Line::Bad,
+            line: LineSoFar::Bad,
         },
     }
 }

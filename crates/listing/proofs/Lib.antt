@@ -1,4 +1,5 @@
+pub mod WrittenCells
 pub mod Lines
-pub mod Refusals
-pub mod Rows
+pub mod CodeWays
+pub mod LastWriters
 pub mod Laws

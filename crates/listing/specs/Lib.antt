@@ -1,2 +1,4 @@
 pub mod Listing
 pub mod Order
+pub mod ReplayText
+pub mod LastWriters

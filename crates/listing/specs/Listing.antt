@@ -4,6 +4,7 @@ use mathlib.Core.List.{List, [], _∷_, _++_}
 use Prim.Native.Nat.{ℕ, zero, suc, _+_, _/_, _%_}
 use lib.Dec.{eqb}
 use lib.ListN.{length, getD}
+use Rattle.registers.specs.Refusals.{lengthsRefusal}
 use Rattle.registers.specs.State.{places}
 use Rattle.text.specs.Text.{bytes, join}
 use Rattle.text.specs.declared.print.Written.{Written}
@@ -12,27 +13,27 @@ use Rattle.text.specs.Printed.{decimalOf, Outcome, wholeText, writtenNumber}
 -- ---- the cells
 
 -- a cell with a writer: its byte, and the number of the event that wrote it
-pub record Row : Type 0 where
+pub record Cell : Type 0 where
   pub column : ℕ
   pub bank : ℕ
   pub byte : ℕ
   pub event : ℕ
 
-abbrev pub row : ℕ → ℕ → ℕ → ℕ → Row
-row c b v n = record { column = c; bank = b; byte = v; event = n }
+abbrev pub cell : ℕ → ℕ → ℕ → ℕ → Cell
+cell c b v n = record { column = c; bank = b; byte = v; event = n }
 
 -- the cell at place 101·bank + column, if it has a writer
-abbrev pub rowAt : List ℕ → List ℕ → ℕ → List Row
-rowAt memory writers k =
-    cond (eqb (getD writers k 0) 0) [] (row (k % 101) (k / 101) (getD memory k 0) (getD writers k 0) ∷ [])
+abbrev pub cellsAt : List ℕ → List ℕ → ℕ → List Cell
+cellsAt memory writers k =
+    cond (eqb (getD writers k 0) 0) [] (cell (k % 101) (k / 101) (getD memory k 0) (getD writers k 0) ∷ [])
 
 -- n places from place k on: a bank's columns stand side by side, so that rising places go by bank, then column
-abbrev pub rowsFrom : List ℕ → List ℕ → ℕ → ℕ → List Row
-rowsFrom memory writers k zero = []
-rowsFrom memory writers k (suc n) = rowAt memory writers k ++ rowsFrom memory writers (k + 1) n
+abbrev pub cellsFrom : List ℕ → List ℕ → ℕ → ℕ → List Cell
+cellsFrom memory writers k zero = []
+cellsFrom memory writers k (suc n) = cellsAt memory writers k ++ cellsFrom memory writers (k + 1) n
 
-unfoldable pub rowsOf : List ℕ → List ℕ → List Row
-rowsOf memory writers = rowsFrom memory writers 0 places
+unfoldable pub cellsOf : List ℕ → List ℕ → List Cell
+cellsOf memory writers = cellsFrom memory writers 0 places
 
 -- ---- the text
 
@@ -43,15 +44,15 @@ line fields = join 9 fields ++ (10 ∷ [])
 abbrev pub header : List ℕ
 header = line (bytes "column" ∷ bytes "bank" ∷ bytes "byte" ∷ bytes "event" ∷ [])
 
-abbrev pub rowText : Row → List ℕ
-rowText r = line (decimalOf (r .column) ∷ decimalOf (r .bank) ∷ decimalOf (r .byte) ∷ decimalOf (r .event) ∷ [])
+abbrev pub cellText : Cell → List ℕ
+cellText r = line (decimalOf (r .column) ∷ decimalOf (r .bank) ∷ decimalOf (r .byte) ∷ decimalOf (r .event) ∷ [])
 
-abbrev pub rowsText : List Row → List ℕ
-rowsText [] = []
-rowsText (r ∷ rs) = rowText r ++ rowsText rs
+abbrev pub cellsText : List Cell → List ℕ
+cellsText [] = []
+cellsText (r ∷ rs) = cellText r ++ cellsText rs
 
 unfoldable pub listingOf : List ℕ → List ℕ → List ℕ
-listingOf memory writers = header ++ rowsText (rowsOf memory writers)
+listingOf memory writers = header ++ cellsText (cellsOf memory writers)
 
 -- on a bad line or event the only output
 unfoldable pub refusedOf : ℕ → List ℕ
@@ -59,19 +60,13 @@ refusedOf n = line (bytes "refused" ∷ decimalOf n ∷ [])
 
 -- ---- the calls: the answer, and the buffer
 
--- 1: a lent memory of another length; 0 is none
-unfoldable pub listingRefusal : ℕ → ℕ → ℕ
-listingRefusal memoryLength writersLength =
-    cond (eqb memoryLength places)
-    (cond (eqb writersLength places) 0 1)
-    1
-
 -- document 01's number for the answer: 10 is an output shorter than needed
 abbrev pub listingNumber : Written → ℕ
 listingNumber = writtenNumber 10
 
+-- 1: a lent memory isn't 1,717 long
 abbrev pub listingCall : List ℕ → List ℕ → List ℕ → Outcome
-listingCall memory writers out = wholeText (listingRefusal (length memory) (length writers)) (listingOf memory writers) out
+listingCall memory writers out = wholeText (lengthsRefusal (length memory) (length writers)) (listingOf memory writers) out
 
 abbrev pub refusedCall : ℕ → List ℕ → Outcome
 refusedCall n out = wholeText 0 (refusedOf n) out

@@ -1,10 +1,12 @@
-// The replay listing: the cells that have a writer, by bank, then column; and the line that says where a capture is bad.
+// The replay listing: the cells that have a writer, by bank, then column; the line that says where a capture is bad; and which of the two is printed.
 ghost use mathlib.Core.Path.{_≡_};
 ghost use Prim.Native.Nat.{_+_, _<_};
 ghost use lib.ListN.{length};
 ghost use Rattle.registers.specs.State.{places};
 ghost use Rattle.text.specs.Printed.{Wrote, outcome};
-ghost use Rattle.listing.specs.Listing.{row, rowAt, rowText, rowsText, listingOf, refusedOf, listingRefusal, listingCall, refusedCall};
+ghost use Rattle.listing.specs.Listing.{cell, cellsAt, cellText, cellsText, listingOf, refusedOf, listingCall, refusedCall};
+ghost use Rattle.listing.specs.ReplayText.{replayTextCall};
+use capture::End;
 use text::print::Written;
 
 const TAB: u8 = 9;
@@ -13,7 +15,7 @@ const NEWLINE: u8 = 10;
 
 // One cell's line.
 fn cell(column: u64, bank: u64, byte: u64, event: u64, out: &mut [u8], at: usize) -> usize
-    ensures { λ r. ⌜ Wrote (now (out .entry)) at (rowText (row column bank byte event)) (now (out .exit)) r ⌝ }
+    ensures { λ r. ⌜ Wrote (now (out .entry)) at (cellText (cell column bank byte event)) (now (out .exit)) r ⌝ }
 {
     let after_column = text::print::field(column, TAB, out, at);
     let after_bank = text::print::field(bank, TAB, out, after_column);
@@ -24,7 +26,7 @@ fn cell(column: u64, bank: u64, byte: u64, event: u64, out: &mut [u8], at: usize
 // The line of place k, if the cell there has a writer.
 fn cell_at(memory: &[u8], writers: &[u64], k: usize, out: &mut [u8], at: usize) -> usize
     requires { ⌜ (k < length (now memory)) × (k < length (now writers)) ⌝ }
-    ensures { λ r. ⌜ Wrote (now (out .entry)) at (rowsText (rowAt (now (memory .entry)) (now (writers .entry)) k)) (now (out .exit)) r ⌝ }
+    ensures { λ r. ⌜ Wrote (now (out .entry)) at (cellsText (cellsAt (now (memory .entry)) (now (writers .entry)) k)) (now (out .exit)) r ⌝ }
 {
     let event = writers[k];
     if event == 0 {
@@ -54,21 +56,11 @@ fn cells(memory: &[u8], writers: &[u64], out: &mut [u8]) -> usize
     at
 }
 
-// 1: a lent memory of another length; 0 is none.
-fn refusal(memory_len: usize, writers_len: usize) -> u8
-    ensures { λ r. ⌜ r ≡ listingRefusal «memory_len» «writers_len» ⌝ }
-{
-    if memory_len != 1717 {
-        return 1;
-    }
-    if writers_len != 1717 { 1 } else { 0 }
-}
-
 // The listing of these memories, from the start of `out` on.
 pub fn listing(memory: &[u8], writers: &[u64], out: &mut [u8]) -> Written
     ensures { λ r. ⌜ outcome r (now (out .exit)) ≡ listingCall (now (memory .entry)) (now (writers .entry)) (now (out .entry)) ⌝ }
 {
-    let refused = refusal(memory.len(), writers.len());
+    let refused = registers::refusal::of_lengths(memory.len(), writers.len());
     if refused != 0 {
         return Written::Refused(refused);
     }
@@ -98,4 +90,20 @@ pub fn refused(n: u64, k: u8, out: &mut [u8]) -> Written
         return Written::Short(needed);
     }
     Written::Text(refused_line(n, k, out))
+}
+
+// What is printed of a capture that came to `end` and left these memories: the listing, or the line where it is bad, from the start of `out` on.
+pub fn replay_text(end: End, memory: &[u8], writers: &[u64], out: &mut [u8]) -> Written
+    ensures { λ r. ⌜ outcome r (now (out .exit)) ≡ replayTextCall end (now (memory .entry)) (now (writers .entry)) (now (out .entry)) ⌝ }
+{
+    let wrong = registers::refusal::of_lengths(memory.len(), writers.len());
+    if wrong != 0 {
+        return Written::Refused(wrong);
+    }
+    match end {
+        End::Refused(number) => Written::Refused(number),
+        End::BadFirst => refused(0, 1, out),
+        End::Bad(chip) => refused(chip.count, 2, out),
+        End::Whole(_) => listing(memory, writers, out),
+    }
 }

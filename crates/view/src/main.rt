@@ -5,13 +5,6 @@ ghost use lib.ListN.{length};
 use capture::End;
 use registers::Chip;
 
-// Bad at line n + k, a number that may be past the largest u64.
-fn refused(n: u64, k: u8) {
-    let mut out = [0u8; 64];
-    let length = listing::refused(n, k, &mut out).length();
-    program_io::put(&out, length);
-}
-
 // Room for the longest picture.
 fn room() -> [u8; 81218]
     ensures { λ r. ⌜ 81218 ≡ length r ⌝ }
@@ -25,24 +18,31 @@ fn show(chip: Chip, memory: &[u8]) {
     program_io::put(&out, length);
 }
 
-fn tell(end: End, memory: &[u8]) {
-    match end {
-        End::BadFirst => refused(0, 1),
-        End::Bad(chip) => refused(chip.count, 2),
-        End::Whole(chip) => show(chip, memory),
-    }
+// The line of a capture that is bad.
+fn refused(end: End, memory: &[u8], writers: &[u64]) {
+    let mut out = [0u8; 64];
+    let length = listing::replay_text(end, memory, writers, &mut out).length();
+    program_io::put(&out, length);
+}
+
+fn tell(end: End, memory: &[u8], writers: &[u64]) {
+    let End::Whole(chip) = end else {
+        refused(end, memory, writers);
+        return;
+    };
+    show(chip, memory);
 }
 
 fn view(fd: i32) {
     let mut memory = [0u8; 1717];
     let mut writers = [0u64; 1717];
-    let played = player::play(fd, &mut memory, &mut writers);
+    let played = capture_file::play(fd, &mut memory, &mut writers);
     let end = played.end;
     if played.failed {
         os::fail(b"reading the capture");
         return;
     }
-    tell(end, &memory);
+    tell(end, &memory, &writers);
 }
 
 fn main() {

@@ -1,65 +1,35 @@
-use Rattle.capture.proofs.Lines.{end-told}
-use mathlib.Core.Path.{refl}
+use Rattle.capture.proofs.CodeWays.{end-refused, end-passed}
 use Rattle.capture.specs.Feeding.{finishOf}
+use Rattle.registers.proofs.Refusals.{refused-first, refused-later}
+use mathlib.Core.Path.{refl}
 use borrow.Author.Needs.{needs}
 use Rattle.capture.proofs.finish.Statement.{statement}
 use Rattle.capture.proofs.finish.Tie as tie
 
-enum-told : tie.Need-enum-told
-enum-told c = search needs
-
-enum-told-2 : tie.Need-enum-told-2
-enum-told-2 c = search needs
-
-enum-told-3 : tie.Need-enum-told-3
-enum-told-3 c = search needs
-
-enum-told-4 : tie.Need-enum-told-4
-enum-told-4 c = search needs
-
-enum-told-5 : tie.Need-enum-told-5
-enum-told-5 c = search needs
-
-enum-told-6 : tie.Need-enum-told-6
-enum-told-6 c = search needs
-
 returns : tie.Need-returns
 unfolding finishOf
-returns c = end-told _ _ (c .enum-told .given .1) _ _ refl
+returns c = end-refused _ _ (refused-first _ _ _ refl (c .if1 .taken)) _ (c .if1 .taken)
+
+of-kept-requires : tie.Need-of-kept-requires
+of-kept-requires c κs = search needs
 
 returns-2 : tie.Need-returns-2
 unfolding finishOf
-returns-2 c = end-told _ _ (c .enum-told2 .given .1) _ _ refl
+returns-2 c =
+    let kept = c .before in
+    let last = kept .before .before .before in
+    end-refused _ _ (refused-later _ _ _ _ refl (last .if1 .left) (kept .of-kept .ensures)) _ (c .if2 .taken)
+
+end-of-requires : tie.Need-end-of-requires
+end-of-requires c κs = search needs
 
 returns-3 : tie.Need-returns-3
 unfolding finishOf
-returns-3 c = end-told _ _ (c .enum-told3 .given .1) _ _ refl
-
-returns-4 : tie.Need-returns-4
-unfolding finishOf
-returns-4 c = end-told _ _ (c .enum-told4 .given .1) _ _ refl
-
-returns-5 : tie.Need-returns-5
-unfolding finishOf
-returns-5 c = end-told _ _ (c .enum-told5 .given .1) _ _ refl
-
-returns-6 : tie.Need-returns-6
-unfolding finishOf
-returns-6 c = end-told _ _ (c .enum-told6 .given .1) _ _ refl
+returns-3 c =
+    let test = c .before in
+    let kept = test .before in
+    let last = kept .before .before .before in
+    end-passed _ _ (refused-later _ _ _ _ refl (last .if1 .left) (kept .of-kept .ensures)) _ _ (test .if2 .left) (c .end-of .ensures)
 
 pub finish-spec : {M : Type 1} → statement M
-finish-spec =
-    tie.close
-    (tie.spec
-    enum-told
-    enum-told-2
-    enum-told-3
-    enum-told-4
-    enum-told-5
-    enum-told-6
-    returns
-    returns-2
-    returns-3
-    returns-4
-    returns-5
-    returns-6)
+finish-spec = tie.close (tie.spec returns of-kept-requires returns-2 end-of-requires returns-3)

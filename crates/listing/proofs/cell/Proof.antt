@@ -1,5 +1,5 @@
 use native.Mathlib.Omega.{arith}
-use Rattle.listing.proofs.Lines.{row-wrote}
+use Rattle.listing.proofs.CodeWays.{cell-wrote}
 use borrow.Author.Needs.{needs}
 use Rattle.listing.proofs.cell.Statement.{statement}
 use Rattle.listing.proofs.cell.Tie as tie
@@ -21,7 +21,7 @@ same-length c = search needs
 
 returns : tie.Need-returns
 returns c =
-    row-wrote _ _ _ _ (omega arith) (omega arith) (omega arith)
+    cell-wrote _ _ _ _ (omega arith) (omega arith) (omega arith)
     (c .before .before .before .before .before .before .before .before .before .before .before .before .before .before .field .ensures)
     (c .before .before .before .before .before .before .before .before .before .before .field2 .ensures)
     (c .before .before .before .before .before .before .field3 .ensures)

@@ -1,5 +1,5 @@
 use native.Mathlib.Omega.{arith}
-use Rattle.listing.proofs.Lines.{wrote-no-row, wrote-row}
+use Rattle.listing.proofs.CodeWays.{wrote-no-cell, wrote-cell}
 use borrow.Author.Needs.{needs}
 use Rattle.listing.proofs.cell_at.Statement.{statement}
 use Rattle.listing.proofs.cell_at.Tie as tie
@@ -13,7 +13,7 @@ shared-slice-read-event c = search needs
 returns : tie.Need-returns
 returns c =
     let args = c .before .before .before .before .before .args in
-    wrote-no-row (args .memory .now) (args .writers .now) _ _ _ (omega arith) (c .if1 .taken)
+    wrote-no-cell (args .memory .now) (args .writers .now) _ _ _ (omega arith) (c .if1 .taken)
 
 shared-slice-read-cell : tie.Need-shared-slice-read-cell
 shared-slice-read-cell c = search needs
@@ -30,7 +30,7 @@ same-length c = search needs
 returns-2 : tie.Need-returns-2
 returns-2 c =
     let args = c .before .before .before .before .before .before .before .before .before .before .args in
-    wrote-row (args .memory .now) (args .writers .now) _ (c .before .before .before .before .before .if1 .left) (c .before .before .cell .ensures)
+    wrote-cell (args .memory .now) (args .writers .now) _ (c .before .before .before .before .before .if1 .left) (c .before .before .cell .ensures)
 
 pub cell-at-spec : {M : Type 1} → statement M
 cell-at-spec =

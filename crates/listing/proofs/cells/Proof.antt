@@ -6,7 +6,8 @@ use native.Mathlib.Omega.{arith}
 use Rattle.registers.specs.State.{places}
 use Rattle.text.specs.Printed.{top, Wrote, partsFrom}
 use Rattle.text.proofs.Writing.{wrote-next, parts-turn, parts-end}
-use Rattle.listing.proofs.Lines.{lineAt, listing-wrote}
+use Rattle.listing.proofs.CodeWays.{listing-wrote}
+use Rattle.listing.proofs.Lines.{lineAt}
 use borrow.Author.Needs.{needs}
 use Rattle.listing.proofs.cells.Statement.{statement}
 use Rattle.listing.proofs.cells.Tie as tie

@@ -1,4 +1,4 @@
-use Rattle.capture.proofs.Lines.{ended-told}
+use Rattle.capture.proofs.CodeWays.{ended-known}
 use mathlib.Core.Path.{refl}
 use Rattle.capture.specs.Feeding.{endedLine}
 use borrow.Author.Needs.{needs}
@@ -31,15 +31,15 @@ enum-told-4 c = search needs
 
 returns : tie.Need-returns
 unfolding endedLine
-returns c = ended-told _ _ (c .enum-told .given .1) _ _ refl
+returns c = ended-known _ _ (c .enum-told .given .1) _ _ refl
 
 returns-2 : tie.Need-returns-2
 unfolding endedLine
-returns-2 c = ended-told _ _ (c .before .before .line .given .1) _ _ (simp (c .reset .ensures))
+returns-2 c = ended-known _ _ (c .before .before .line .given .1) _ _ (simp (c .reset .ensures))
 
 returns-3 : tie.Need-returns-3
 unfolding endedLine
-returns-3 c = ended-told _ _ (c .enum-told2 .given .1) _ _ refl
+returns-3 c = ended-known _ _ (c .enum-told2 .given .1) _ _ refl
 
 same-length : tie.Need-same-length
 same-length c = search needs
@@ -49,15 +49,17 @@ same-length-2 c = search needs
 
 returns-4 : tie.Need-returns-4
 unfolding endedLine
-returns-4 c = ended-told _ _ (c .before .before .before .before .before .before .before .before .line2 .given .1) _ _ (c .before .before .before .before .play .ensures)
+returns-4 c =
+    let played = c .before .before .before .before in
+    ended-known _ _ (played .before .before .before .before .line2 .given .1) _ _ (played .play .ensures)
 
 returns-5 : tie.Need-returns-5
 unfolding endedLine
-returns-5 c = ended-told _ _ (c .enum-told3 .given .1) _ _ refl
+returns-5 c = ended-known _ _ (c .enum-told3 .given .1) _ _ refl
 
 returns-6 : tie.Need-returns-6
 unfolding endedLine
-returns-6 c = ended-told _ _ (c .enum-told4 .given .1) _ _ refl
+returns-6 c = ended-known _ _ (c .enum-told4 .given .1) _ _ refl
 
 pub end-line-spec : {M : Type 1} → statement M
 end-line-spec =

@@ -1,13 +1,16 @@
-use Rattle.capture.proofs.Lines.{played}
+use Rattle.capture.proofs.CodeWays.{after-played}
 use borrow.Author.Needs.{needs}
 use Rattle.capture.proofs.play.play.Statement.{statement}
 use Rattle.capture.proofs.play.play.Tie as tie
 
-step-requires : tie.Need-step-requires
-step-requires c κs = search needs
+slice-aggregate-run : tie.Need-slice-aggregate-run
+slice-aggregate-run c = search needs
 
-after-answer-requires : tie.Need-after-answer-requires
-after-answer-requires c κs = search needs
+run-requires : tie.Need-run-requires
+run-requires c κs = search needs
+
+line-after-requires : tie.Need-line-after-requires
+line-after-requires c κs = search needs
 
 same-length : tie.Need-same-length
 same-length c = search needs
@@ -16,8 +19,15 @@ same-length-2 : tie.Need-same-length-2
 same-length-2 c = search needs
 
 returns : tie.Need-returns
-returns c = played _ _ _ _ (c .before .before .before .before .before .before .step .ensures) (c .after-answer .ensures)
+returns c = after-played _ _ _ (c .before .before .before .before .before .before .run .ensures) (c .line-after .ensures)
 
 pub play-spec : {M : Type 1} → statement M
 play-spec =
-    tie.close (tie.spec step-requires after-answer-requires same-length same-length-2 returns)
+    tie.close
+    (tie.spec
+    slice-aggregate-run
+    run-requires
+    line-after-requires
+    same-length
+    same-length-2
+    returns)

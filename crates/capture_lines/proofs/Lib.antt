@@ -1,0 +1,4 @@
+pub mod CodeWays
+pub mod Digits
+pub mod Pins
+pub mod Laws

@@ -1,0 +1,30 @@
+-- What the listing of a replay says of the capture.
+use mathlib.Core.List.{List, _++_, List·Memᴰ}
+use mathlib.Core.Logic.{_↔_}
+use mathlib.Core.Path.{_≡_}
+use Prim.Native.Nat.{ℕ, _+_, _*_, _≤_, _<_}
+use lib.ListN.{getD, length}
+use Rattle.chip.specs.LastWriter.{Lands, before}
+use Rattle.chip.specs.Promised.{storedOf}
+use Rattle.capture.specs.Cells.{start}
+use Rattle.listing.specs.Listing.{Cell, header, cellsText}
+use Rattle.listing.specs.Order.{InOrder}
+
+-- the capture's n-th event, n being the cell's, is the last display byte stored at the cell, and left the cell's byte there
+pub record NamesLastWriter (pins : ℕ) (es : List ℕ) (c : Cell) : Type 0 where
+  pub column-there : c .column ≤ 100
+  pub bank-there : c .bank ≤ 16
+  -- its place in the list of events, from 0
+  pub last : ℕ
+  pub numbered : c .event ≡ last + 1
+  pub is-event : last < length es
+  pub landed : Lands (getD es last 0) (before es last (start pins)) (101 * c .bank + c .column)
+  pub none-after : (j : ℕ) → last < j → j < length es → Lands (getD es j 0) (before es j (start pins)) (101 * c .bank + c .column) → ⊥
+  pub byte : c .byte ≡ storedOf (before es last (start pins) .chip .registers) (getD es last 0)
+
+-- the text is the header and a line for each cell that names its last writer, and no others, by bank, then column
+pub record ListsLastWriters (pins : ℕ) (es text : List ℕ) : Type 0 where
+  pub cells : List Cell
+  pub is-text : text ≡ header ++ cellsText cells
+  pub in-order : InOrder cells
+  pub exactly : (c : Cell) → List·Memᴰ c cells ↔ NamesLastWriter pins es c
