@@ -1,6 +1,7 @@
 -- Wrong replays are shut out: one computed test over the table.
 use lib.Dec.{T}
 use Rattle.cases.specs.Cited.{allowed, rowAt, commandOf, storedOf, placeOf, nextAddress, refusalOf, applied, accepted, numberOf, pinsOf, replayOf}
+use Rattle.cases.specs.Cited.{entryRefusal, eventRefusal, isAddressed, phaseAfterAddress, acknowledge, controlled, counted, columnOf, runFrom, runOf}
 use Rattle.cases.specs.Captures.{captureRows}
 use Rattle.cases.specs.Observed.{Distinguishes}
 use Rattle.cases.specs.Table.{EachRow, eachPasses}
@@ -9,6 +10,7 @@ use Rattle.cases.proofs.Table.{each-row}
 
 all-pass : T (eachPasses (passes replayOf) captureRows)
 unfolding captureRows refusalOf accepted applied allowed commandOf rowAt storedOf placeOf nextAddress numberOf pinsOf replayOf
+    entryRefusal eventRefusal isAddressed phaseAfterAddress acknowledge controlled counted columnOf runFrom runOf
 all-pass = tt
 
 pub wrong-replays : EachRow (Distinguishes replayOf) captureRows

@@ -3,9 +3,9 @@ use mathlib.Core.List.{List, [], _∷_}
 use Prim.Native.Nat.{ℕ}
 use Prim.Native.String.{String}
 use Rattle.cases.specs.Behaviour.{cell, writer}
-use Rattle.cases.specs.Cited.{bytes, State, Replay, refusedAt, replayed}
+use Rattle.cases.specs.Cited.{bytes, State, Replay, refusedBy, refusedAt, replayed}
 use Rattle.cases.specs.Observed.{Observation, _gives_not_}
-use Rattle.cases.specs.Start.{zeros}
+use Rattle.cases.specs.Start.{upon, zeros}
 
 -- ---- a program that replays, and what can be seen of it
 
@@ -13,15 +13,28 @@ use Rattle.cases.specs.Start.{zeros}
 abbrev pub Replayer : Type 0
 Replayer = List ℕ → List ℕ → List ℕ → Replay
 
+-- the number that refuses the whole, 0 where there is none
+abbrev pub numberOfReplay : Replay → ℕ
+numberOfReplay (refusedBy k) = k
+numberOfReplay (refusedAt n s) = 0
+numberOfReplay (replayed s) = 0
+
+-- the bad line, 0 where there is none
 abbrev pub lineOfReplay : Replay → ℕ
+lineOfReplay (refusedBy k) = 0
 lineOfReplay (refusedAt n s) = n
 lineOfReplay (replayed s) = 0
 
+-- what the events left; where none was played, a chip after reset
 abbrev pub stateOfReplay : Replay → State
+stateOfReplay (refusedBy k) = upon []
 stateOfReplay (refusedAt n s) = s
 stateOfReplay (replayed s) = s
 
--- the bad line, 0 where there is none
+-- lent memories of these contents
+abbrev pub refusedOn : List ℕ → List ℕ → String → Replayer → ℕ
+refusedOn m w text f = numberOfReplay (f (bytes text) m w)
+
 abbrev pub badLine : String → Replayer → ℕ
 badLine text f = lineOfReplay (f (bytes text) zeros zeros)
 
@@ -33,8 +46,12 @@ replayLeaves text part f = part (stateOfReplay (f (bytes text) zeros zeros))
 
 unfoldable pub captureRows : List (Observation Replayer)
 captureRows =
+    -- memories of another length accepted, one or the other; and 1 given for right ones
+    refusedOn [] zeros "pins\t0\n" gives 1 not 0
+    ∷ refusedOn zeros [] "pins\t0\n" gives 1 not 0
+    ∷ refusedOn zeros zeros "pins\t0\n" gives 0 not 1
     -- the first marked stream: nothing replayed, and events counted from 0
-    replayLeaves "pins\t0\n256\n120\n128\n1\n128\n133\n128\n66\n64\n167\n257\n" (cell 5 2) gives 167 not 0
+    ∷ replayLeaves "pins\t0\n256\n120\n128\n1\n128\n133\n128\n66\n64\n167\n257\n" (cell 5 2) gives 167 not 0
     ∷ replayLeaves "pins\t0\n256\n120\n128\n1\n128\n133\n128\n66\n64\n167\n257\n" (writer 5 2) gives 10 not 9
     -- a cell that is written twice: the first writer named
     ∷ replayLeaves "pins\t0\n256\n120\n64\n7\n256\n120\n128\n128\n64\n8\n" (writer 0 0) gives 10 not 4

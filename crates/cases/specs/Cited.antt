@@ -21,7 +21,7 @@ pub use Rattle.compiler.specs.declared.answer.Numbers.{Numbers}
 pub use Rattle.compiler.specs.Compile.{Result, numbersOf, linesOf}
 pub use Rattle.compiler.specs.Demand3.{Demand3, Draws}
 pub use Rattle.compiler.specs.Plain.{Picture, pictureOf, plain}
-pub use Rattle.capture.specs.Replay.{Replay, refusedAt, replayed}
+pub use Rattle.capture.specs.Replay.{Replay, refusedBy, refusedAt, replayed}
 pub use Rattle.glass.specs.declared.answer.Shown.{Shown}
 pub use Rattle.glass.specs.declared.answer.Cell.{Cell}
 pub use Rattle.glass.specs.Answer.{shownNumber, cellNumber}
@@ -44,5 +44,5 @@ unfoldable pub use Rattle.compiler.specs.Plain.{filled, setTo}
 unfoldable pub use Rattle.compiler.specs.Stream.{lineEvents, stream}
 unfoldable pub use Rattle.compiler.specs.Compile.{compileOf}
 unfoldable pub use Rattle.glass.specs.Glass.{placeRefusal, glassRefusal, cellOf, glassOf}
-unfoldable pub use Rattle.capture.specs.Reading.{pinsOf}
+unfoldable pub use Rattle.capture_lines.specs.Line.{pinsOf}
 unfoldable pub use Rattle.capture.specs.Replay.{replayOf}
