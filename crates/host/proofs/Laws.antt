@@ -1,18 +1,25 @@
 -- The calls of the host are refused exactly when document 01 says, and a refused call changes nothing. (record_words: words and record.)
-use mathlib.Core.Path.{_≡_, refl, sym, ap, _∙_}
+use mathlib.Core.Path.{_≡_, refl, sym, ap, _∙_, subst}
 use mathlib.Core.Bool.{Bool, true, false, cond, not, _||_}
 use mathlib.Core.List.{List}
-use mathlib.Core.Logic.{_↔_}
-use Prim.Native.Nat.{ℕ, suc, _+_}
+use mathlib.Core.Logic.{_↔_, inl, inr}
+use Prim.Native.Nat.{ℕ, suc, _+_, _^_, _≤_, _<_}
+use native.Mathlib.Omega.{arith}
 use native.Mathlib.Nat.{suc-ne-zero}
 use lib.Dec.{eqb}
-use lib.ListN.{length, getD}
+use lib.ListN.{length, getD, take}
 use Rattle.registers.specs.Refusals.{refuse, _then_}
 use Rattle.registers.specs.State.{state, places}
 use Rattle.registers.proofs.Below.{true-false}
-use Rattle.compiler.proofs.Laws.{two-exactly}
+use Rattle.lists.specs.Lists.{faulty, readingOf}
+use Rattle.lists.proofs.Readings.{reading-refused}
+use Rattle.compiler.specs.declared.answer.Compiled as answer
+use Rattle.compiler.specs.declared.answer.Compiled.the-variants.{Done, Refused, BadLine, Short}
+use Rattle.compiler.specs.Compile.{compileOf, numbersOf}
+use Rattle.compiler.specs.When.{NotRead}
+use Rattle.compiler.proofs.Laws.{two-exactly, exactly-when, demand-3-promised}
 use Rattle.engine.specs.Step as inside
-use Rattle.engine.specs.Step.{eventRefusal, refusalOf, accepted, stepOf}
+use Rattle.engine.specs.Step.{Fit, eventRefusal, refusalOf, accepted, stepOf}
 use Rattle.engine.specs.Run.{runFrom, runOf}
 use Rattle.record_words.specs.Words.{COUNT, standsFor, chipOf}
 use Rattle.glass.specs.Pixel.{placeAt}
@@ -21,8 +28,10 @@ use Rattle.glass.specs.Glass as glass
 use Rattle.glass.specs.Glass.{offGlass, ramRowOf, cellOf, shownAt, glassOf}
 use Rattle.host.specs.Calls.{noRecordFor, noRecord, stepped, stepCall, stepRefusal, afterStep, entryRefusal, ran, runCall, afterRun}
 use Rattle.host.specs.Compiling.{Compiled, compiled, compileCall}
+use Rattle.host.specs.Playing.{Buffers, PlayedByCalls, DrawnByCalls, LastWriterByCalls}
 use Rattle.host.specs.Views.{glassCall, placeCall, placeRefusal, glassRefusal}
 use Rattle.record_words.proofs.Laws.{words-chip-words, stands-allowed}
+use Rattle.host.proofs.Playing.{as-buffers, as-stands, played-by-calls, last-writer-stands, last-writer-none}
 
 module _ (ws m w : List ℕ) where
   never-none : noRecord m w ≡ 0 → ⊥
@@ -158,3 +167,54 @@ module _ (row column : ℕ) (ws : List ℕ) where
         go : (t : Bool) → standsFor ws ≡ t → glassCall row column ws m ≡ shownNumber (shownAt (chipOf ws .registers) m (ramRowOf (chipOf ws) row) column)
         go true h = rw (h, glass-of-chip h ∙ r)
         go false h = absurd (glass-never-none (eqb (length m) places) (rw h at r))
+
+-- ---- demand 3 and demand 2 by calls alone
+
+module _ (ws text out : List ℕ) where
+  bad-line-number : (k i : ℕ) → readingOf text ≡ faulty k i → 6 ≤ k
+  unfolding readingOf
+  bad-line-number k i e = reading-refused 1 text k i e .least
+
+  count-room : (n : ℕ) → getD ws COUNT 0 + n < 2 ^ 64 → chipOf ws .count + n < 2 ^ 64
+  unfolding chipOf
+  count-room n h = h
+
+  drawn :
+      (r : answer.Compiled) → standsFor ws ≡ true → compileOf (chipOf ws) text out .answer ≡ r → numbersOf r .number ≡ 0
+      → DrawnByCalls ws text (numbersOf r .length) (compileOf (chipOf ws) text out .out)
+  drawn (Refused k) h e z = absurd (go (exactly-when (chipOf ws) text out (Refused k) .0 e))
+    where
+      go : NotRead (chipOf ws) text k → ⊥
+      go (inl two) = omega (arith, two .0, z)
+      go (inr nine) = omega (arith, nine .0, z)
+  drawn (BadLine k i) h e z = absurd (omega (arith, bad-line-number k i (exactly-when (chipOf ws) text out (BadLine k i) .0 e .1), z))
+  drawn (Short n) h e z = absurd (omega (arith, z))
+  drawn (Done n k) h e z =
+      let draws = demand-3-promised (chipOf ws) text out n k e in
+      record {
+        list = draws .list;
+        reads = draws .reads;
+        plays = λ m w lm lw room.
+            let fit : Fit (state (chipOf ws) m w) = record { memory-long = lm; writers-long = lw; is-allowed = stands-allowed ws h } in
+            subst (PlayedByCalls (draws .list) (take n (compileOf (chipOf ws) text out .out))) (sym (as-buffers ws m w h))
+            (played-by-calls (draws .list) _ _ (as-stands ws m w h) (draws .plays m w fit (count-room n room)));
+      }
+
+  -- a list that pcf8820_compile accepts is drawn by calls of pcf8820_step, and by one of pcf8820_run
+  pub demand-3-by-calls : compileCall ws text out .number ≡ 0 → DrawnByCalls ws text (compileCall ws text out .length) (compileCall ws text out .out)
+  unfolding compileCall
+  demand-3-by-calls z = go (standsFor ws) refl
+    where
+      go : (t : Bool) → standsFor ws ≡ t → DrawnByCalls ws text (compileCall ws text out .length) (compileCall ws text out .out)
+      go true h = rw h (drawn (compileOf (chipOf ws) text out .answer) h refl (rw h at z))
+      go false h = absurd (suc-ne-zero 1 (rw h at z))
+
+-- at every place of the memories that pcf8820_run leaves: byte and writer are as they were, or those of the last display byte stored there
+pub last-writer-by-calls : (es : List ℕ) (b : Buffers) (k : ℕ) → LastWriterByCalls es b k
+last-writer-by-calls es b k = go (standsFor (b .words)) refl
+  where
+    go : (t : Bool) → standsFor (b .words) ≡ t → LastWriterByCalls es b k
+    go true h =
+        subst (λ (c : Buffers). LastWriterByCalls es c k) (sym (as-buffers (b .words) (b .memory) (b .writers) h))
+        (last-writer-stands es (state (chipOf (b .words)) (b .memory) (b .writers)) k (as-stands (b .words) (b .memory) (b .writers) h))
+    go false h = last-writer-none es (b .words) (b .memory) (b .writers) k h

@@ -1,2 +1,3 @@
 pub mod CodeWays
+pub mod Playing
 pub mod Laws

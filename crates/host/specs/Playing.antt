@@ -1,0 +1,97 @@
+-- Demand 3 and the last writer in the words of the buffers that a host in C lends, by calls alone.
+use mathlib.Core.List.{List, [], _∷_}
+use mathlib.Core.Logic.{_⊎_}
+use mathlib.Core.Path.{_≡_}
+use Prim.Native.Nat.{ℕ, zero, suc, _+_, _^_, _≤_, _<_}
+use lib.ListN.{getD, length, take}
+use Rattle.registers.specs.Record.{ofValues, blank}
+use Rattle.registers.specs.State.{places}
+use Rattle.chip.specs.Promised.{placeOf, storedOf}
+use Rattle.lists.specs.declared.Line.{Line}
+use Rattle.lists.specs.Lists.{lines, readingOf}
+use Rattle.compiler.specs.Plain.{Picture, plain}
+use Rattle.record_words.specs.Words.{PHASE-RS, COUNT}
+use Rattle.host.specs.Calls.{Stepped, stepCall, Ran, ran, runCall}
+
+-- what is lent with an event: the record's words, display bytes and writer numbers
+pub record Buffers : Type 0 where
+  pub words : List ℕ
+  pub memory : List ℕ
+  pub writers : List ℕ
+
+abbrev pub buffers : List ℕ → List ℕ → List ℕ → Buffers
+buffers ws m w = record { words = ws; memory = m; writers = w }
+
+-- a call of pcf8820_step, and one of pcf8820_run
+abbrev pub stepOn : ℕ → Buffers → Stepped
+stepOn e b = stepCall e (b .words) (b .memory) (b .writers)
+
+abbrev pub runOn : List ℕ → Buffers → Ran
+runOn es b = runCall es (b .words) (b .memory) (b .writers)
+
+-- the buffers as a step leaves them
+abbrev pub leftBy : Stepped → Buffers
+leftBy r = buffers (r .words) (r .memory) (r .writers)
+
+-- the buffers that event i of the list comes upon, counted from 0, where each call is lent what the one before it left
+abbrev pub uponEvent : List ℕ → ℕ → Buffers → Buffers
+uponEvent [] i b = b
+uponEvent (e ∷ es) zero b = b
+uponEvent (e ∷ es) (suc i) b = uponEvent es i (leftBy (stepOn e b))
+
+-- the buffers after the last of them
+abbrev pub afterEvents : List ℕ → Buffers → Buffers
+afterEvents [] b = b
+afterEvents (e ∷ es) b = afterEvents es (leftBy (stepOn e b))
+
+-- ---- demand 3
+
+-- what a drawing list can say something of: the display bytes, and words 0 to 28 but those of H, X and Y
+abbrev pub pictureIn : Buffers → Picture
+pictureIn b = record { cells = b .memory; registers = blank (ofValues (b .words)) }
+
+-- the events es of the lines ls, given to pcf8820_step one by one
+pub record PlayedByCalls (ls : List Line) (es : List ℕ) (b : Buffers) : Type 0 where
+  -- no call gives the number of a refusal, and for every byte it gives 257, acknowledged
+  pub not-refused : (i : ℕ) → i < length es → 256 ≤ stepOn (getD es i 0) (uponEvent es i b) .number
+  pub acknowledged : (i : ℕ) → i < length es → getD es i 0 < 256 → stepOn (getD es i 0) (uponEvent es i b) .number ≡ 257
+  -- the buffers are those of the list's plain reading
+  pub same-picture : pictureIn (afterEvents es b) ≡ plain ls (pictureIn b)
+  -- pcf8820_run over the same events gives 0, does them all, and leaves the same buffers
+  pub same-run : runOn es b ≡ ran 0 (length es) (afterEvents es b .words) (afterEvents es b .memory) (afterEvents es b .writers)
+
+-- the text has a plain reading, and the output's first n events play it: with any two memories 1,717 long, and with room in the count's word
+pub record DrawnByCalls (ws text : List ℕ) (n : ℕ) (out : List ℕ) : Type 0 where
+  pub list : List Line
+  pub reads : readingOf text ≡ lines list
+  pub plays :
+      (m w : List ℕ) → length m ≡ places → length w ≡ places → getD ws COUNT 0 + n < 2 ^ 64
+      → PlayedByCalls list (take n out) (buffers ws m w)
+
+-- ---- the last writer
+
+-- event e, lent these buffers, is an acknowledged display byte at place k
+pub record StoredAt (e : ℕ) (b : Buffers) (k : ℕ) : Type 0 where
+  pub is-byte : e < 256
+  -- bytes with RS 1 are awaited
+  pub is-data : getD (b .words) PHASE-RS 0 ≡ 1
+  pub acknowledged : stepOn e b .number ≡ 257
+  pub at-place : placeOf (ofValues (b .words)) ≡ k
+
+-- of the events that the run did none was stored at k: byte and writer are as they were
+pub record NoneStored (es : List ℕ) (b : Buffers) (k : ℕ) : Type 0 where
+  pub none : (i : ℕ) → i < runOn es b .done → StoredAt (getD es i 0) (uponEvent es i b) k → ⊥
+  pub byte : getD (runOn es b .memory) k 0 ≡ getD (b .memory) k 0
+  pub writer : getD (runOn es b .writers) k 0 ≡ getD (b .writers) k 0
+
+-- the last that was stored at k left its byte, and its number: the starting count plus its place in the list from 1
+pub record LastStored (es : List ℕ) (b : Buffers) (k : ℕ) : Type 0 where
+  pub event : ℕ
+  pub is-done : event < runOn es b .done
+  pub stored : StoredAt (getD es event 0) (uponEvent es event b) k
+  pub is-last : (j : ℕ) → event < j → j < runOn es b .done → StoredAt (getD es j 0) (uponEvent es j b) k → ⊥
+  pub byte : getD (runOn es b .memory) k 0 ≡ storedOf (ofValues (uponEvent es event b .words)) (getD es event 0)
+  pub writer : getD (runOn es b .writers) k 0 ≡ getD (b .words) COUNT 0 + (event + 1)
+
+abbrev pub LastWriterByCalls : List ℕ → Buffers → ℕ → Type 0
+LastWriterByCalls es b k = NoneStored es b k ⊎ LastStored es b k
