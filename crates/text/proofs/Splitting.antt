@@ -16,7 +16,9 @@ pub split-count : (b : ℕ) (s : List ℕ) → length (split b s) ≡ countOf b 
 split-count b [] = refl
 split-count b (x ∷ xs) = go (eqb x b) (split b xs) (split-count b xs)
   where
-    go : (t : Bool) (ps : List (List ℕ)) → length ps ≡ countOf b xs + 1 → length (cond t ([] ∷ ps) (onFirst x ps)) ≡ cond t (suc (countOf b xs)) (countOf b xs) + 1
+    go :
+        (t : Bool) (ps : List (List ℕ)) → length ps ≡ countOf b xs + 1
+        → length (cond t ([] ∷ ps) (onFirst x ps)) ≡ cond t (suc (countOf b xs)) (countOf b xs) + 1
     go true ps h = omega arith
     go false [] h = absurd (omega arith)
     go false (p ∷ ps) h = h

@@ -33,9 +33,11 @@ loop-less c = search needs
 
 loop-again : tie.Need-loop-again Inv-loop μ-loop
 loop-again c =
+    let here = c .before .before .loop-test .taken in
+    let counted = c .before .before .before .loop .inv .2 in
     ⊎-elim
-    (λ w. (search needs, omega arith, count-here _ _ _ _ _ (c .before .before .loop-test .taken) (w .0 .taken) (w .1) ∙ c .before .before .before .loop .inv .2))
-    (λ w. (search needs, omega arith, count-on _ _ _ _ _ (c .before .before .loop-test .taken) (w .0 .left) (w .1) ∙ c .before .before .before .loop .inv .2))
+    (λ w. (search needs, omega arith, count-here _ _ _ _ _ here (w .0 .taken) (w .1) ∙ counted))
+    (λ w. (search needs, omega arith, count-on _ _ _ _ _ here (w .0 .left) (w .1) ∙ counted))
     (c .if1 .came)
 
 returns : tie.Need-returns Inv-loop μ-loop
