@@ -3,3 +3,4 @@ pub mod Lines
 pub mod CodeWays
 pub mod LastWriters
 pub mod Laws
+pub mod Wrong

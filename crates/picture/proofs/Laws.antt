@@ -1,6 +1,6 @@
 -- What is promised of the picture, in one place: read this file first. The work stands in the file beside it.
 use mathlib.Core.Path.{_≡_, refl, sym, ap, _∙_}
-use mathlib.Core.Bool.{Bool, true, false, cond, not}
+use mathlib.Core.Bool.{Bool, true, false, not}
 use mathlib.Core.List.{List, _++_, append-assoc}
 use Prim.Native.Nat.{ℕ, _+_, _*_, _-_, _≤_, _<_}
 use native.Mathlib.Omega.{arith}
@@ -21,9 +21,9 @@ use Rattle.text.proofs.Digits.{count-append}
 use Rattle.text.proofs.Writing.{parts-split, parts-count}
 use Rattle.picture.specs.Picture.{grey, colourOf, pixelText, header, pixelAt, pixelCount, pixmapOf, pixmapRefusal}
 use Rattle.picture.specs.Order.{LineAt}
-use Rattle.picture.proofs.Writes.{one-line, pixel-of}
+use Rattle.picture.proofs.Lines.{one-line, pixel-of}
 -- how long the text is at most
-pub use Rattle.picture.proofs.Writes.{pixmap-bound}
+pub use Rattle.picture.proofs.Lines.{pixmap-bound}
 
 -- ---- refusals
 
@@ -32,7 +32,7 @@ pub as-the-glass : (c : Chip) (n row column : ℕ) → OnGlass row column → pi
 unfolding pixmapRefusal glassRefusal placeRefusal
 as-the-glass c n row column on = sym (simp (is-on row column on) (go (eqb n places) (allowed c)))
   where
-    go : (l a : Bool) → refuse (not l) 1 then refuse (not a) 2 then 0 ≡ cond (not l) 1 (cond (not a) 2 0)
+    go : (l a : Bool) → refuse (not l) 1 then refuse (not a) 2 then 0 ≡ refuse (not l) 1 then refuse (not a) 2
     go true true = refl
     go true false = refl
     go false a = refl

@@ -1,2 +1,4 @@
-pub mod Writes
+pub mod Lines
+pub mod CodeWays
 pub mod Laws
+pub mod Wrong

@@ -1,12 +1,9 @@
 -- The glass as a portable pixmap (PPM, text form P3): a header, then one pixel a line, row 0 first and in a row column 0 first.
-use mathlib.Core.Bool.{cond, not}
 use mathlib.Core.List.{List, [], _∷_, _++_}
 use Prim.Native.Nat.{ℕ, _*_, _/_, _%_, _-_}
-use lib.Dec.{eqb}
 use lib.ListN.{length}
 use Rattle.registers.specs.declared.Chip.{Chip}
-use Rattle.registers.specs.Record.{allowed}
-use Rattle.registers.specs.State.{places}
+use Rattle.registers.specs.Refusals.{_then_, lengthRefusal, recordRefusal}
 use Rattle.glass.specs.declared.answer.Shown.{Shown}
 use Rattle.glass.specs.declared.answer.Shown.the-variants as shown
 use Rattle.glass.specs.Glass.{glassOf}
@@ -52,12 +49,9 @@ pixmapOf c memory = header ++ partsFrom (pixelAt c memory) 0 pixelCount
 
 -- ---- the call
 
--- 1: a memory of another length; 2: a record that is not allowed; 0 is none
+-- 1: a memory isn't 1,717 long; 2: register record not allowed
 unfoldable pub pixmapRefusal : Chip → ℕ → ℕ
-pixmapRefusal c memoryLength =
-    cond (not (eqb memoryLength places)) 1
-    (cond (not (allowed c)) 2
-    0)
+pixmapRefusal c memoryLength = lengthRefusal memoryLength then recordRefusal c
 
 -- document 01's number for the answer: 10 is an output shorter than needed
 abbrev pub pixmapNumber : Written → ℕ

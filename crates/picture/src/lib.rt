@@ -84,10 +84,11 @@ fn pixels(chip: Chip, memory: &[u8], out: &mut [u8]) -> usize
 fn refusal(chip: Chip, memory_len: usize) -> u8
     ensures { λ r. ⌜ r ≡ pixmapRefusal chip «memory_len» ⌝ }
 {
-    if memory_len != 1717 {
-        return 1;
+    let length = registers::refusal::of_length(memory_len);
+    if length != 0 {
+        return length;
     }
-    if !chip.allowed() { 2 } else { 0 }
+    registers::refusal::of_record(chip)
 }
 
 // The picture of what this chip shows of this memory, from the start of `out` on.

@@ -1,5 +1,5 @@
 use native.Mathlib.Omega.{arith}
-use Rattle.picture.proofs.Writes.{pixel-wrote}
+use Rattle.picture.proofs.CodeWays.{pixel-wrote}
 use borrow.Author.Needs.{needs}
 use Rattle.picture.proofs.pixel.Statement.{statement}
 use Rattle.picture.proofs.pixel.Tie as tie

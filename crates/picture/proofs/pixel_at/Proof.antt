@@ -1,4 +1,4 @@
-use Rattle.picture.proofs.Writes.{pixel-shown}
+use Rattle.picture.proofs.CodeWays.{pixel-shown}
 use borrow.Author.Needs.{needs}
 use Rattle.picture.proofs.pixel_at.Statement.{statement}
 use Rattle.picture.proofs.pixel_at.Tie as tie

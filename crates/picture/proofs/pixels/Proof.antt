@@ -6,7 +6,7 @@ use native.Mathlib.Omega.{arith}
 use Rattle.text.specs.Printed.{top, Wrote, partsFrom}
 use Rattle.text.proofs.Writing.{wrote-next, parts-turn, parts-end}
 use Rattle.picture.specs.Picture.{pixelAt, pixelCount}
-use Rattle.picture.proofs.Writes.{pixmap-wrote}
+use Rattle.picture.proofs.CodeWays.{pixmap-wrote}
 use borrow.Author.Needs.{needs}
 use Rattle.picture.proofs.pixels.Statement.{statement}
 use Rattle.picture.proofs.pixels.Tie as tie

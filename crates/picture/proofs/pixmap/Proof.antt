@@ -1,6 +1,6 @@
 use native.Mathlib.Omega.{arith}
 use Rattle.text.proofs.Whole.{whole-refused, whole-passed, whole-short, whole-written}
-use Rattle.picture.proofs.Writes.{pixmap-bound}
+use Rattle.picture.proofs.Lines.{pixmap-bound}
 use borrow.Author.Needs.{needs}
 use Rattle.picture.proofs.pixmap.Statement.{statement}
 use Rattle.picture.proofs.pixmap.Tie as tie
