@@ -12,7 +12,7 @@ use Rattle.engine.specs.declared.event.Event.{Event}
 use Rattle.engine.specs.Phases.{phaseAfterContent}
 use Rattle.engine.specs.Step.{onByte, applied, accepted, counted}
 use Rattle.engine.proofs.Events.{byte-event}
-use Rattle.chip.specs.Phases.{awaitsData, awaitsCommand, isDeaf, afterUnheard}
+use Rattle.chip.specs.Phases.{awaitsData, awaitsCommand, ignoresBytes, phaseAfterIgnored}
 use Rattle.chip.specs.Promised.{Acknowledged, NotAcknowledged, after, nothingStored, refusalOf, stepOf, commandOf, storedOf, placeOf, nextAddress}
 use Rattle.chip.specs.Effects.{displayed}
 use Rattle.chip.proofs.Refusals.{accepted-step}
@@ -51,15 +51,15 @@ display-at (EndlessBytes false) b number s t = absurd (false-true t)
 display-at Reading b number s t = absurd (false-true t)
 display-at ReadEnded b number s t = absurd (false-true t)
 
-pub unheard-at : (p : Phase) (b number : ℕ) (s : State) → s .chip .phase ≡ p → isDeaf p ≡ true → onByte p b number s ≡ nothingStored NotAcknowledged (inPhase (s .chip) (afterUnheard p)) s
-unheard-at Idle b number s e t = same-phase s Idle e
-unheard-at AddressAwaited b number s e t = absurd (false-true t)
-unheard-at Ignoring b number s e t = same-phase s Ignoring e
-unheard-at ControlAwaited b number s e t = absurd (false-true t)
-unheard-at (OneByte rs) b number s e t = absurd (false-true t)
-unheard-at (EndlessBytes rs) b number s e t = absurd (false-true t)
-unheard-at Reading b number s e t = refl
-unheard-at ReadEnded b number s e t = refl
+pub ignored-at : (p : Phase) (b number : ℕ) (s : State) → s .chip .phase ≡ p → ignoresBytes p ≡ true → onByte p b number s ≡ nothingStored NotAcknowledged (inPhase (s .chip) (phaseAfterIgnored p)) s
+ignored-at Idle b number s e t = same-phase s Idle e
+ignored-at AddressAwaited b number s e t = absurd (false-true t)
+ignored-at Ignoring b number s e t = same-phase s Ignoring e
+ignored-at ControlAwaited b number s e t = absurd (false-true t)
+ignored-at (OneByte rs) b number s e t = absurd (false-true t)
+ignored-at (EndlessBytes rs) b number s e t = absurd (false-true t)
+ignored-at Reading b number s e t = refl
+ignored-at ReadEnded b number s e t = refl
 
 -- an accepted byte, by the phase
 pub by-phase :

@@ -1,4 +1,4 @@
--- Demand 2 over whole runs: each place of the memories names the last display byte that landed there.
+-- Demand 2 over whole runs: each place of the memories names the last display byte that was stored there.
 use mathlib.Core.Bool.{Bool, true, false}
 use mathlib.Core.List.{List, [], _∷_}
 use mathlib.Core.Logic.{_⊎_, inl, inr}
@@ -23,7 +23,7 @@ use Rattle.engine.specs.Step.{controlled, pulsed, sensed, onByte, applied, acce
 use Rattle.engine.proofs.Allowed.{accepted-fit, fit-place}
 use Rattle.engine.proofs.Events.{byte-event, other-event}
 use Rattle.chip.specs.Effects.{displayed}
-use Rattle.chip.specs.LastWriter.{Lands, before, Untouched, Written, PlaceAfter}
+use Rattle.chip.specs.LastWriter.{StoredAt, before, Untouched, Written, PlaceAfter}
 use Rattle.chip.specs.Phases.{awaitsData}
 use Rattle.chip.specs.Promised.{After, Fit, Outcome, refusalOf, stepOf, placeOf, storedOf}
 use Rattle.chip.proofs.Events.{display-step}
@@ -33,42 +33,42 @@ use Rattle.chip.proofs.Runs.{run-shift}
 -- ---- one event
 
 -- the event is no display byte
-abbrev Quiet : Event → Phase → Type 0
-Quiet (Byte b) p = awaitsData p ≡ false
-Quiet Start p = Unit
-Quiet Stop p = Unit
-Quiet ReadAcknowledged p = Unit
-Quiet ReadNotAcknowledged p = Unit
-Quiet Reset p = Unit
-Quiet (Sensor v) p = Unit
-Quiet Unlisted p = Unit
+abbrev StoresNothing : Event → Phase → Type 0
+StoresNothing (Byte b) p = awaitsData p ≡ false
+StoresNothing Start p = Unit
+StoresNothing Stop p = Unit
+StoresNothing ReadAcknowledged p = Unit
+StoresNothing ReadNotAcknowledged p = Unit
+StoresNothing Reset p = Unit
+StoresNothing (Sensor v) p = Unit
+StoresNothing Unlisted p = Unit
 
 -- both memories are as they were
 abbrev Kept : After → State → Type 0
 Kept a s = (a .state .memory ≡ s .memory) × (a .state .writers ≡ s .writers)
 
-quiet-byte : (p : Phase) (b number : ℕ) (s : State) → awaitsData p ≡ false → Kept (onByte p b number s) s
-quiet-byte Idle b number s q = (refl, refl)
-quiet-byte AddressAwaited b number s q = (refl, refl)
-quiet-byte Ignoring b number s q = (refl, refl)
-quiet-byte ControlAwaited b number s q = (refl, refl)
-quiet-byte (OneByte true) b number s q = absurd (true-false q)
-quiet-byte (OneByte false) b number s q = (refl, refl)
-quiet-byte (EndlessBytes true) b number s q = absurd (true-false q)
-quiet-byte (EndlessBytes false) b number s q = (refl, refl)
-quiet-byte Reading b number s q = (refl, refl)
-quiet-byte ReadEnded b number s q = (refl, refl)
+byte-stores-nothing : (p : Phase) (b number : ℕ) (s : State) → awaitsData p ≡ false → Kept (onByte p b number s) s
+byte-stores-nothing Idle b number s q = (refl, refl)
+byte-stores-nothing AddressAwaited b number s q = (refl, refl)
+byte-stores-nothing Ignoring b number s q = (refl, refl)
+byte-stores-nothing ControlAwaited b number s q = (refl, refl)
+byte-stores-nothing (OneByte true) b number s q = absurd (true-false q)
+byte-stores-nothing (OneByte false) b number s q = (refl, refl)
+byte-stores-nothing (EndlessBytes true) b number s q = absurd (true-false q)
+byte-stores-nothing (EndlessBytes false) b number s q = (refl, refl)
+byte-stores-nothing Reading b number s q = (refl, refl)
+byte-stores-nothing ReadEnded b number s q = (refl, refl)
 
-quiet-event : (v : Event) (number : ℕ) (s : State) → Quiet v (s .chip .phase) → Kept (applied v number s) s
+event-stores-nothing : (v : Event) (number : ℕ) (s : State) → StoresNothing v (s .chip .phase) → Kept (applied v number s) s
 unfolding applied
-quiet-event (Byte b) number s q = quiet-byte (s .chip .phase) b number s q
-quiet-event Start number s q = (refl, refl)
-quiet-event Stop number s q = (refl, refl)
-quiet-event ReadAcknowledged number s q = (refl, refl)
-quiet-event ReadNotAcknowledged number s q = (refl, refl)
-quiet-event Reset number s q = (refl, refl)
-quiet-event (Sensor v) number s q = (refl, refl)
-quiet-event Unlisted number s q = (refl, refl)
+event-stores-nothing (Byte b) number s q = byte-stores-nothing (s .chip .phase) b number s q
+event-stores-nothing Start number s q = (refl, refl)
+event-stores-nothing Stop number s q = (refl, refl)
+event-stores-nothing ReadAcknowledged number s q = (refl, refl)
+event-stores-nothing ReadNotAcknowledged number s q = (refl, refl)
+event-stores-nothing Reset number s q = (refl, refl)
+event-stores-nothing (Sensor v) number s q = (refl, refl)
+event-stores-nothing Unlisted number s q = (refl, refl)
 
 -- every accepted event adds 1 to the count
 counts-byte : (p : Phase) (b number : ℕ) (s : State) → onByte p b number s .state .chip .count ≡ s .chip .count
@@ -100,32 +100,32 @@ unfolding accepted counted
 counts-accepted e s = counts-event (eventOf e) (s .chip .count + 1) (state (counted (s .chip)) (s .memory) (s .writers))
 
 -- an event that is no byte stores nothing
-other-quiet : (v : Event) (p : Phase) → isByte v ≡ false → Quiet v p
-other-quiet (Byte b) p h = absurd (true-false h)
-other-quiet Start p h = tt
-other-quiet Stop p h = tt
-other-quiet ReadAcknowledged p h = tt
-other-quiet ReadNotAcknowledged p h = tt
-other-quiet Reset p h = tt
-other-quiet (Sensor v) p h = tt
-other-quiet Unlisted p h = tt
+other-stores-nothing : (v : Event) (p : Phase) → isByte v ≡ false → StoresNothing v p
+other-stores-nothing (Byte b) p h = absurd (true-false h)
+other-stores-nothing Start p h = tt
+other-stores-nothing Stop p h = tt
+other-stores-nothing ReadAcknowledged p h = tt
+other-stores-nothing ReadNotAcknowledged p h = tt
+other-stores-nothing Reset p h = tt
+other-stores-nothing (Sensor v) p h = tt
+other-stores-nothing Unlisted p h = tt
 
--- what an accepted event does to place k: it lands there, or the place is as it was
-record Landed (e : ℕ) (s end : State) (k : ℕ) : Type 0 where
-  lands : Lands e s k
+-- what an accepted event does to place k: it is stored there, or the place is as it was
+record Stores (e : ℕ) (s end : State) (k : ℕ) : Type 0 where
+  is-stored : StoredAt e s k
   byte : getD (end .memory) k 0 ≡ storedOf (s .chip .registers) e
   writer : getD (end .writers) k 0 ≡ s .chip .count + 1
 
 record Passed (e : ℕ) (s end : State) (k : ℕ) : Type 0 where
-  misses : Lands e s k → ⊥
+  misses : StoredAt e s k → ⊥
   byte : getD (end .memory) k 0 ≡ getD (s .memory) k 0
   writer : getD (end .writers) k 0 ≡ getD (s .writers) k 0
 
 module _ (e : ℕ) (s : State) (k : ℕ) (h : refusalOf e s ≡ 0) (fit : Fit s) where
-  quiet-passes : (Lands e s k → ⊥) → Quiet (eventOf e) (s .chip .phase) → Passed e s (stepOf e s .state) k
+  nothing-stored : (StoredAt e s k → ⊥) → StoresNothing (eventOf e) (s .chip .phase) → Passed e s (stepOf e s .state) k
   unfolding accepted counted
-  quiet-passes n q =
-      let same = quiet-event (eventOf e) (s .chip .count + 1) (state (counted (s .chip)) (s .memory) (s .writers)) q in
+  nothing-stored n q =
+      let same = event-stores-nothing (eventOf e) (s .chip .count + 1) (state (counted (s .chip)) (s .memory) (s .writers)) q in
       let step = accepted-step e s h in
       record {
         misses = n;
@@ -133,9 +133,9 @@ module _ (e : ℕ) (s : State) (k : ℕ) (h : refusalOf e s ≡ 0) (fit : Fit s)
         writer = ap (λ (a : After). getD (a .state .writers) k 0) step ∙ ap (λ (l : List ℕ). getD l k 0) (same .1);
       }
 
-  data-lands : e < 256 → awaitsData (s .chip .phase) ≡ true → Landed e s (stepOf e s .state) k ⊎ Passed e s (stepOf e s .state) k
+  data-stores : e < 256 → awaitsData (s .chip .phase) ≡ true → Stores e s (stepOf e s .state) k ⊎ Passed e s (stepOf e s .state) k
   unfolding isAcknowledged
-  data-lands b t = go (ℕ-discrete (placeOf (s .chip .registers)) k)
+  data-stores b t = go (ℕ-discrete (placeOf (s .chip .registers)) k)
     where
       step : stepOf e s ≡ displayed e s
       step = display-step s e b h t
@@ -149,11 +149,11 @@ module _ (e : ℕ) (s : State) (k : ℕ) (h : refusalOf e s ≡ 0) (fit : Fit s)
       at-writers : (x : ℕ) → getD (stepOf e s .state .writers) x 0 ≡ getD (set (s .writers) (placeOf (s .chip .registers)) (s .chip .count + 1)) x 0
       at-writers x = ap (λ (a : After). getD (a .state .writers) x 0) step
 
-      go : Dec (placeOf (s .chip .registers) ≡ k) → Landed e s (stepOf e s .state) k ⊎ Passed e s (stepOf e s .state) k
+      go : Dec (placeOf (s .chip .registers) ≡ k) → Stores e s (stepOf e s .state) k ⊎ Passed e s (stepOf e s .state) k
       go (yes q) =
           inl
           (record {
-            lands = record { is-byte = b; is-data = t; acknowledged = ap (λ (a : After). isAcknowledged (a .answer)) step; at-place = q };
+            is-stored = record { is-byte = b; is-data = t; acknowledged = ap (λ (a : After). isAcknowledged (a .answer)) step; at-place = q };
             byte = subst (λ (x : ℕ). getD (stepOf e s .state .memory) x 0 ≡ storedOf (s .chip .registers) e) q
                 (at-memory _ ∙ getD-set-same (s .memory) _ _ 0 (subst (λ (n : ℕ). placeOf (s .chip .registers) < n) (sym (fit .memory-long)) within));
             writer = subst (λ (x : ℕ). getD (stepOf e s .state .writers) x 0 ≡ s .chip .count + 1) q
@@ -167,14 +167,14 @@ module _ (e : ℕ) (s : State) (k : ℕ) (h : refusalOf e s ≡ 0) (fit : Fit s)
             writer = at-writers k ∙ getD-set-other (s .writers) _ k _ 0 (λ q. d (sym q));
           })
 
-  effect : Landed e s (stepOf e s .state) k ⊎ Passed e s (stepOf e s .state) k
+  effect : Stores e s (stepOf e s .state) k ⊎ Passed e s (stepOf e s .state) k
   effect = go (decLt e 256) (awaitsData (s .chip .phase)) refl
     where
-      go : Dec (e < 256) → (t : Bool) → awaitsData (s .chip .phase) ≡ t → Landed e s (stepOf e s .state) k ⊎ Passed e s (stepOf e s .state) k
-      go (no n) t et = inr (quiet-passes (λ l. n (l .is-byte)) (other-quiet (eventOf e) (s .chip .phase) (other-event e (omega arith))))
-      go (yes b) true et = data-lands b et
+      go : Dec (e < 256) → (t : Bool) → awaitsData (s .chip .phase) ≡ t → Stores e s (stepOf e s .state) k ⊎ Passed e s (stepOf e s .state) k
+      go (no n) t et = inr (nothing-stored (λ l. n (l .is-byte)) (other-stores-nothing (eventOf e) (s .chip .phase) (other-event e (omega arith))))
+      go (yes b) true et = data-stores b et
       go (yes b) false et =
-          inr (quiet-passes (λ l. true-false (sym (l .is-data) ∙ et)) (subst (λ (v : Event). Quiet v (s .chip .phase)) (sym (byte-event e b)) et))
+          inr (nothing-stored (λ l. true-false (sym (l .is-data) ∙ et)) (subst (λ (v : Event). StoresNothing v (s .chip .phase)) (sym (byte-event e b)) et))
 
 -- ---- the run
 
@@ -185,40 +185,40 @@ module _ (e : ℕ) (es : List ℕ) (s end : State) (n k : ℕ) (up : stepOf e s 
       record {
         event = suc (w .event);
         is-done = suc-le-suc (w .is-done);
-        landed = w .landed;
+        is-stored = w .is-stored;
         is-last = later;
         byte = w .byte;
         writer = w .writer ∙ omega arith;
       }
     where
-      later : (j : ℕ) → suc (w .event) < j → j < suc n → Lands (getD (e ∷ es) j 0) (before (e ∷ es) j s) k → ⊥
+      later : (j : ℕ) → suc (w .event) < j → j < suc n → StoredAt (getD (e ∷ es) j 0) (before (e ∷ es) j s) k → ⊥
       later zero a b l = omega arith
       later (suc j) a b l = w .is-last j (le-of-suc-le-suc a) (le-of-suc-le-suc b) l
 
-  first-written : Landed e s (stepOf e s .state) k → Untouched es n (stepOf e s .state) end k → Written (e ∷ es) (suc n) s end k
+  first-written : Stores e s (stepOf e s .state) k → Untouched es n (stepOf e s .state) end k → Written (e ∷ es) (suc n) s end k
   first-written l u =
       record {
         event = zero;
         is-done = omega arith;
-        landed = l .lands;
+        is-stored = l .is-stored;
         is-last = later;
         byte = u .byte ∙ l .byte;
         writer = u .writer ∙ l .writer ∙ omega arith;
       }
     where
-      later : (j : ℕ) → zero < j → j < suc n → Lands (getD (e ∷ es) j 0) (before (e ∷ es) j s) k → ⊥
+      later : (j : ℕ) → zero < j → j < suc n → StoredAt (getD (e ∷ es) j 0) (before (e ∷ es) j s) k → ⊥
       later zero a b l = omega arith
       later (suc j) a b l = u .none j (le-of-suc-le-suc b) l
 
   still-untouched : Passed e s (stepOf e s .state) k → Untouched es n (stepOf e s .state) end k → Untouched (e ∷ es) (suc n) s end k
   still-untouched p u = record { none = never; byte = u .byte ∙ p .byte; writer = u .writer ∙ p .writer }
     where
-      never : (i : ℕ) → i < suc n → Lands (getD (e ∷ es) i 0) (before (e ∷ es) i s) k → ⊥
+      never : (i : ℕ) → i < suc n → StoredAt (getD (e ∷ es) i 0) (before (e ∷ es) i s) k → ⊥
       never zero b l = p .misses l
       never (suc i) b l = u .none i (le-of-suc-le-suc b) l
 
   joined :
-      Landed e s (stepOf e s .state) k ⊎ Passed e s (stepOf e s .state) k
+      Stores e s (stepOf e s .state) k ⊎ Passed e s (stepOf e s .state) k
       → Untouched es n (stepOf e s .state) end k ⊎ Written es n (stepOf e s .state) end k
       → Untouched (e ∷ es) (suc n) s end k ⊎ Written (e ∷ es) (suc n) s end k
   joined first (inr w) = inr (then-written w)

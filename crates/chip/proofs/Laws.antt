@@ -16,11 +16,11 @@ use Rattle.engine.proofs.Events.{sensor-event}
 use Rattle.engine.proofs.Refusals.{entry-fit}
 use Rattle.chip.specs.Effects.{displayed}
 use Rattle.chip.specs.LastWriter.{PlaceAfter, LastWriter}
-use Rattle.chip.specs.Phases.{awaitsData, awaitsCommand, isDeaf, afterUnheard}
+use Rattle.chip.specs.Phases.{awaitsData, awaitsCommand, ignoresBytes, phaseAfterIgnored}
 use Rattle.chip.specs.Promised.{Refused, Nothing, Acknowledged, NotAcknowledged, Read, nothingStored, Fit, entryRefusal, refusalOf, isAddressed, acknowledge, phaseAfterAddress, controlled, phaseAfterLastRead, pulsed, sensed, commandOf}
 use Rattle.chip.specs.Runs.{continued, StepByStep}
 use Rattle.chip.specs.When.{When}
-use Rattle.chip.proofs.Events.{by-phase, in-phase-told, command-at, display-step, unheard-at}
+use Rattle.chip.proofs.Events.{by-phase, in-phase-told, command-at, display-step, ignored-at}
 use Rattle.chip.proofs.LastWriter.{from-written, idle, counts-accepted}
 use Rattle.chip.proofs.Refusals.{verdict, when-so, accepted-step}
 use Rattle.chip.proofs.Runs.{from-append, from-fit, from-steps, entry-stops}
@@ -95,10 +95,10 @@ module _ (s : State) where
     pub display-law : awaitsData (s .chip .phase) ≡ true → stepOf b s ≡ displayed b s
     display-law t = display-step s b is-byte h t
 
-    pub unheard-law : isDeaf (s .chip .phase) ≡ true → stepOf b s ≡ nothingStored NotAcknowledged (inPhase (counted (s .chip)) (afterUnheard (s .chip .phase))) s
+    pub ignored-law : ignoresBytes (s .chip .phase) ≡ true → stepOf b s ≡ nothingStored NotAcknowledged (inPhase (counted (s .chip)) (phaseAfterIgnored (s .chip .phase))) s
     unfolding counted
-    unheard-law t =
-        by-phase s b is-byte h ∙ unheard-at (s .chip .phase) b (s .chip .count + 1) (state (counted (s .chip)) (s .memory) (s .writers)) refl t
+    ignored-law t =
+        by-phase s b is-byte h ∙ ignored-at (s .chip .phase) b (s .chip .count + 1) (state (counted (s .chip)) (s .memory) (s .writers)) refl t
 
 -- every accepted event adds 1 to the count, and that is its number
 pub count-law : (e : ℕ) (s : State) → refusalOf e s ≡ 0 → stepOf e s .state .chip .count ≡ s .chip .count + 1
@@ -134,7 +134,7 @@ run-stays-fit es s fit = go (entryRefusal s)
     go zero = from-fit 0 es s fit
     go (suc x) = fit
 
--- the last writer, demand 2: at every place either nothing landed and byte and writer are as they were, or the last display byte that landed
+-- the last writer, demand 2: at every place either nothing was stored and byte and writer are as they were, or the last display byte that was stored
 -- there is named by the writer and its stored byte is there
 pub last-writer : (es : List ℕ) (s : State) (k : ℕ) → LastWriter es s k
 unfolding runOf

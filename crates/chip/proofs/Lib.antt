@@ -1,7 +1,7 @@
 pub mod Events
 pub mod LastWriter
 pub mod Laws
-pub mod Paint
+pub mod Rectangles
 pub mod Plays
 pub mod Refusals
 pub mod Rows

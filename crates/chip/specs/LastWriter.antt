@@ -9,8 +9,8 @@ use Rattle.registers.specs.State.{State}
 use Rattle.chip.specs.Phases.{awaitsData}
 use Rattle.chip.specs.Promised.{isAcknowledged, stepOf, runOf, placeOf, storedOf}
 
--- event e, coming upon s, is an acknowledged display byte at place k
-pub record Lands (e : ℕ) (s : State) (k : ℕ) : Type 0 where
+-- event e, coming upon s, is an acknowledged display byte, stored at place k
+pub record StoredAt (e : ℕ) (s : State) (k : ℕ) : Type 0 where
   pub is-byte : e < 256
   pub is-data : awaitsData (s .chip .phase) ≡ true
   pub acknowledged : isAcknowledged (stepOf e s .answer) ≡ true
@@ -22,18 +22,18 @@ before [] i s = s
 before (e ∷ es) zero s = s
 before (e ∷ es) (suc i) s = before es i (stepOf e s .state)
 
--- of the first n events none landed at k: byte and writer are as they were
+-- of the first n events none was stored at k: byte and writer are as they were
 pub record Untouched (es : List ℕ) (n : ℕ) (s end : State) (k : ℕ) : Type 0 where
-  pub none : (i : ℕ) → i < n → Lands (getD es i 0) (before es i s) k → ⊥
+  pub none : (i : ℕ) → i < n → StoredAt (getD es i 0) (before es i s) k → ⊥
   pub byte : getD (end .memory) k 0 ≡ getD (s .memory) k 0
   pub writer : getD (end .writers) k 0 ≡ getD (s .writers) k 0
 
--- the last that landed at k left its stored byte, and its number: the starting count plus its place in the list from 1
+-- the last that was stored at k left its stored byte, and its number: the starting count plus its place in the list from 1
 pub record Written (es : List ℕ) (n : ℕ) (s end : State) (k : ℕ) : Type 0 where
   pub event : ℕ
   pub is-done : event < n
-  pub landed : Lands (getD es event 0) (before es event s) k
-  pub is-last : (j : ℕ) → event < j → j < n → Lands (getD es j 0) (before es j s) k → ⊥
+  pub is-stored : StoredAt (getD es event 0) (before es event s) k
+  pub is-last : (j : ℕ) → event < j → j < n → StoredAt (getD es j 0) (before es j s) k → ⊥
   pub byte : getD (end .memory) k 0 ≡ storedOf (before es event s .chip .registers) (getD es event 0)
   pub writer : getD (end .writers) k 0 ≡ s .chip .count + (event + 1)
 

@@ -1,6 +1,6 @@
 pub mod Effects
 pub mod LastWriter
-pub mod Paint
+pub mod Rectangles
 pub mod Phases
 pub mod Plays
 pub mod Promised

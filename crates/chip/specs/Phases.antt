@@ -25,24 +25,24 @@ awaitsCommand (EndlessBytes rs) = not rs
 awaitsCommand Reading = false
 awaitsCommand ReadEnded = false
 
--- nothing: the chip is not spoken to
-abbrev pub isDeaf : Phase → Bool
-isDeaf Idle = true
-isDeaf AddressAwaited = false
-isDeaf Ignoring = true
-isDeaf ControlAwaited = false
-isDeaf (OneByte rs) = false
-isDeaf (EndlessBytes rs) = false
-isDeaf Reading = true
-isDeaf ReadEnded = true
+-- nothing: the chip takes no byte
+abbrev pub ignoresBytes : Phase → Bool
+ignoresBytes Idle = true
+ignoresBytes AddressAwaited = false
+ignoresBytes Ignoring = true
+ignoresBytes ControlAwaited = false
+ignoresBytes (OneByte rs) = false
+ignoresBytes (EndlessBytes rs) = false
+ignoresBytes Reading = true
+ignoresBytes ReadEnded = true
 
 -- the phase after a byte that the chip does not take: a byte from the master while the chip reads out makes it ignore the rest
-abbrev pub afterUnheard : Phase → Phase
-afterUnheard Idle = Idle
-afterUnheard AddressAwaited = AddressAwaited
-afterUnheard Ignoring = Ignoring
-afterUnheard ControlAwaited = ControlAwaited
-afterUnheard (OneByte rs) = OneByte rs
-afterUnheard (EndlessBytes rs) = EndlessBytes rs
-afterUnheard Reading = Ignoring
-afterUnheard ReadEnded = Ignoring
+abbrev pub phaseAfterIgnored : Phase → Phase
+phaseAfterIgnored Idle = Idle
+phaseAfterIgnored AddressAwaited = AddressAwaited
+phaseAfterIgnored Ignoring = Ignoring
+phaseAfterIgnored ControlAwaited = ControlAwaited
+phaseAfterIgnored (OneByte rs) = OneByte rs
+phaseAfterIgnored (EndlessBytes rs) = EndlessBytes rs
+phaseAfterIgnored Reading = Ignoring
+phaseAfterIgnored ReadEnded = Ignoring

@@ -15,7 +15,7 @@ use Rattle.registers.specs.Record.{blank}
 use Rattle.registers.specs.State.{State}
 use Rattle.registers.proofs.Below.{true-false}
 use Rattle.registers.proofs.Within.{register-bound, both-left, both-right}
-use Rattle.chip.specs.Paint.{In, Paints}
+use Rattle.chip.specs.Rectangles.{In, Fills}
 use Rattle.chip.specs.Plays.{Plays, Sees}
 use Rattle.chip.proofs.Plays.{plays-weaken}
 use Rattle.lists.specs.Syntax.{ValidFill}
@@ -23,7 +23,7 @@ use Rattle.compiler.specs.Plain.{isInside, filledFrom, filled}
 use Rattle.compiler.specs.Stream.{across, down, fill, firstX}
 use Rattle.compiler.proofs.Fills.{Drawn, seen-allowed, across-plays, down-plays}
 
--- ---- the plain reading paints the same cells
+-- ---- the plain reading fills the same cells
 
 from-length : (c0 c1 b0 b1 n k : ℕ) (m : List ℕ) → length (filledFrom c0 c1 b0 b1 n k m) ≡ length m
 from-length c0 c1 b0 b1 n k [] = refl
@@ -90,21 +90,21 @@ first-low false c0 c1 o l = (omega arith, omega arith)
 
 -- ---- the fill
 
-module _ (mx c0 c1 b0 b1 n : ℕ) (fits : ValidFill c0 c1 b0 b1 n) (m m′ : List ℕ) (paints : Paints (In mx (firstX mx c0 c1) (c1 - c0 + 1) b0 (b1 - b0 + 1)) n m m′) where
-  pub painted-plain : m′ ≡ filled c0 c1 b0 b1 n m
-  painted-plain =
-      ext-getD 0 m′ (filled c0 c1 b0 b1 n m) (paints .same-length ∙ sym (filled-length c0 c1 b0 b1 n m))
-      (λ i h. let l : i < length m = subst (λ (k : ℕ). i < k) (paints .same-length) h in
+module _ (mx c0 c1 b0 b1 n : ℕ) (fits : ValidFill c0 c1 b0 b1 n) (m m′ : List ℕ) (fills : Fills (In mx (firstX mx c0 c1) (c1 - c0 + 1) b0 (b1 - b0 + 1)) n m m′) where
+  pub filled-plain : m′ ≡ filled c0 c1 b0 b1 n m
+  filled-plain =
+      ext-getD 0 m′ (filled c0 c1 b0 b1 n m) (fills .same-length ∙ sym (filled-length c0 c1 b0 b1 n m))
+      (λ i h. let l : i < length m = subst (λ (k : ℕ). i < k) (fills .same-length) h in
       at i l (isInside c0 c1 b0 b1 i) refl ∙ sym (filled-at c0 c1 b0 b1 n m i l))
     where
       at : (i : ℕ) → i < length m → (t : Bool) → isInside c0 c1 b0 b1 i ≡ t → getD m′ i 0 ≡ cond (isInside c0 c1 b0 b1 i) n (getD m i 0)
       at i l true e =
           let w = inside-bounds c0 c1 b0 b1 i e in
           let x = in-left (eqb mx 1) c0 c1 (i % 101) (fits .columns) (fits .last-column) (omega arith) (w .first-column) (w .last-column) in
-          paints .inside i l (record { left = x .0; right = x .1; top = w .first-bank; bottom = omega (arith, w .last-bank, fits .banks) })
+          fills .inside i l (record { left = x .0; right = x .1; top = w .first-bank; bottom = omega (arith, w .last-bank, fits .banks) })
           ∙ sym (ap (λ (t : Bool). cond t n (getD m i 0)) e)
       at i l false e =
-          paints .outside i
+          fills .outside i
           (λ w. let x = left-in (eqb mx 1) c0 c1 (i % 101) (fits .columns) (fits .last-column) (omega arith) (w .left) (w .right) in
           true-false (sym (bounds-inside c0 c1 b0 b1 i
           (record { first-column = x .0; last-column = x .1; first-bank = w .top; last-bank = omega (arith, w .bottom, fits .banks) })) ∙ e))
@@ -127,7 +127,7 @@ fill-plays c0 c1 b0 b1 n fits q m pins k s shows = go (eqb (q .v) 1) refl
         (λ t d.
         record {
           full = d .full;
-          sees = subst (λ (x : List ℕ). Sees (d .full) x pins k t) (painted-plain (q .mx) c0 c1 b0 b1 n fits m (d .memory) (d .paints)) (d .sees);
+          sees = subst (λ (x : List ℕ). Sees (d .full) x pins k t) (filled-plain (q .mx) c0 c1 b0 b1 n fits m (d .memory) (d .fills)) (d .sees);
           same = d .same;
         })
         p

@@ -1,4 +1,4 @@
--- A fill's events paint its rectangle, and leave the registers but H, X and Y.
+-- A fill's events fill its rectangle, and leave the registers but H, X and Y.
 use mathlib.Core.Bool.{Bool, true, false, cond}
 use mathlib.Core.List.{List, [], _∷_, _++_}
 use mathlib.Core.Path.{_≡_, sym, ap, _∙_, subst}
@@ -14,17 +14,17 @@ use Rattle.registers.specs.Record.{put, blank, allowedRegisters}
 use Rattle.registers.specs.Reversed.{reversedOf, ordered}
 use Rattle.registers.specs.State.{State, places}
 use Rattle.registers.proofs.Within.{register-bound, allowed-registers}
-use Rattle.chip.specs.Paint.{In, Paints, mirrored}
+use Rattle.chip.specs.Rectangles.{In, Fills, mirroredBy}
 use Rattle.chip.specs.Plays.{Plays, Sees, Bytes, advanced, written}
-use Rattle.chip.proofs.Paint.{reversed-byte, paints-none, paints-both, in-or-out, across-paints, down-paints}
+use Rattle.chip.proofs.Rectangles.{reversed-byte, fills-none, fills-both, in-or-out, across-fills, down-fills}
 use Rattle.chip.proofs.Plays.{plays-none, plays-append, plays-weaken, data-message-plays}
 use Rattle.chip.proofs.Rows.{address-leads, advanced-blank}
 use Rattle.compiler.specs.Stream.{run, across, down}
 
--- a state that shows these registers but H, X and Y, and the memory m with b painted inside
+-- a state that shows these registers but H, X and Y, and the memory m with b inside
 pub record Drawn (Inside : ℕ → Type 0) (b : ℕ) (m : List ℕ) (q : Registers) (pins n : ℕ) (s : State) : Type 0 where
   pub memory : List ℕ
-  pub paints : Paints Inside b m memory
+  pub fills : Fills Inside b m memory
   pub full : Registers
   pub sees : Sees full memory pins n s
   pub same : blank full ≡ q
@@ -48,17 +48,17 @@ module _ (r : Registers) (m : List ℕ) (pins n : ℕ) (s : State) (see : Sees r
   pub seen-length : length m ≡ places
   seen-length = ap length (sym (see .memory)) ∙ see .fit .memory-long
 
--- one run, of which only the cells that its display bytes paint have to be known
+-- one run, of which only the cells that its display bytes fill have to be known
 run-plays :
     (r : Registers) (x n y b pins k : ℕ) (m : List ℕ) (s : State) (Inside : ℕ → Type 0) → x ≤ 100 → y ≤ 16 → b < 256
-    → Paints Inside b m (written (replicate n (ordered (r .«data_order») b)) (put Y y (put X x (put H 0 r))) m)
+    → Fills Inside b m (written (replicate n (ordered (r .«data_order») b)) (put Y y (put X x (put H 0 r))) m)
     → Sees r m pins (length (run pins (blank r) x y n b) + k) s
     → Plays (run pins (blank r) x y n b) (Drawn Inside b m (blank r) pins k) s
-run-plays r x n y b pins k m s Inside hx hy hb paints see =
+run-plays r x n y b pins k m s Inside hx hy hb fills see =
     let ds = replicate n (ordered (r .«data_order») b) in
     let r′ = put Y y (put X x (put H 0 r)) in
     plays-weaken (run pins (blank r) x y n b) (Sees (advanced ds r′) (written ds r′ m) pins k) (Drawn Inside b m (blank r) pins k) s
-    (λ t seen. record { memory = written ds r′ m; paints = paints; full = advanced ds r′; sees = seen; same = advanced-blank ds r′ })
+    (λ t seen. record { memory = written ds r′ m; fills = fills; full = advanced ds r′; sees = seen; same = advanced-blank ds r′ })
     (data-message-plays (1 ∷ (128 + x) ∷ (64 + y) ∷ []) ds r r′ m pins k (address-leads x y r (seen-page r m pins _ s see) hx hy)
     (bytes-replicate n (ordered (r .«data_order») b) (ordered-byte (eqb (r .«data_order») 1) b hb)) s see)
 
@@ -73,7 +73,7 @@ run-across r q same x n y b pins k m s hn hx hy hb bank =
     same
     (λ v see.
     run-plays r x n y b pins k m s (In (r .mx) x n y 1) hx hy hb
-    (across-paints n (put Y y (put X x (put H 0 r))) m b v hn hy (seen-length r m pins _ s see) hb bank) see)
+    (across-fills n (put Y y (put X x (put H 0 r))) m b v hn hy (seen-length r m pins _ s see) hb bank) see)
 
 run-down :
     (r q : Registers) → blank r ≡ q → (x n y b pins k : ℕ) (m : List ℕ) (s : State) → x ≤ 100 → y ≤ 16 → y + n ≤ 17 → b < 256 → (y + n ≡ 17 → b < 64)
@@ -85,7 +85,7 @@ run-down r q same x n y b pins k m s hx hy hn hb bank =
     same
     (λ v see.
     run-plays r x n y b pins k m s (In (r .mx) x 1 y n) hx hy hb
-    (down-paints n (put Y y (put X x (put H 0 r))) m b v hx hn (seen-length r m pins _ s see) hb bank) see)
+    (down-fills n (put Y y (put X x (put H 0 r))) m b v hx hn (seen-length r m pins _ s see) hb bank) see)
 
 -- ---- run after run
 
@@ -107,7 +107,7 @@ then-draws xs ys A B C b m q pins n s dec ac bc rest first second =
     (λ u e.
     record {
       memory = e .memory;
-      paints = paints-both A B C b m (d .memory) (e .memory) dec ac bc rest (d .paints) (e .paints);
+      fills = fills-both A B C b m (d .memory) (e .memory) dec ac bc rest (d .fills) (e .fills);
       full = e .full;
       sees = e .sees;
       same = e .same;
@@ -124,7 +124,7 @@ across-plays zero r q x n y b pins room m s same v hn hx hk hb bank see =
     plays-none (Drawn (In (q .mx) x n y 0) b m q pins room) s
     (record {
       memory = m;
-      paints = paints-none (In (q .mx) x n y 0) b m (λ k i. omega (arith, i .top, i .bottom));
+      fills = fills-none (In (q .mx) x n y 0) b m (λ k i. omega (arith, i .top, i .bottom));
       full = r;
       sees = subst (λ (k : ℕ). Sees r m pins k s) (omega arith) see;
       same = same;
@@ -152,7 +152,7 @@ down-plays zero r q x n y b pins room m s same v hk hy hn hb bank see =
     plays-none (Drawn (In (q .mx) x 0 y n) b m q pins room) s
     (record {
       memory = m;
-      paints = paints-none (In (q .mx) x 0 y n) b m (λ k i. omega (arith, i .left, i .right));
+      fills = fills-none (In (q .mx) x 0 y n) b m (λ k i. omega (arith, i .left, i .right));
       full = r;
       sees = subst (λ (k : ℕ). Sees r m pins k s) (omega arith) see;
       same = same;
@@ -162,12 +162,12 @@ down-plays (suc k) r q x n y b pins room m s same v hk hy hn hb bank see =
     (in-or-out (q .mx) (x + 1) k y n)
     (λ p i. record { left = i .left; right = omega (arith, i .right); top = i .top; bottom = i .bottom })
     (λ p i. record { left = omega (arith, i .left); right = omega (arith, i .right); top = i .top; bottom = i .bottom })
-    (λ p i o. record { left = i .left; right = narrow p i o (decLt (mirrored (q .mx) (p % 101)) (x + 1)); top = i .top; bottom = i .bottom })
+    (λ p i o. record { left = i .left; right = narrow p i o (decLt (mirroredBy (q .mx) (p % 101)) (x + 1)); top = i .top; bottom = i .bottom })
     (run-down r q same x n y b pins (length (down pins q y n b (x + 1) k) + room) m s (omega arith) hy hn hb bank v
     (split-room r m pins room (run pins q x y n b) (down pins q y n b (x + 1) k) s see))
     (λ r′ m₁ t same′ see′. down-plays k r′ q (x + 1) n y b pins room m₁ t same′ v (omega arith) hy hn hb bank see′)
   where
     narrow :
-        (p : ℕ) → In (q .mx) x (suc k) y n p → (In (q .mx) (x + 1) k y n p → ⊥) → Dec (mirrored (q .mx) (p % 101) < x + 1) → mirrored (q .mx) (p % 101) < x + 1
+        (p : ℕ) → In (q .mx) x (suc k) y n p → (In (q .mx) (x + 1) k y n p → ⊥) → Dec (mirroredBy (q .mx) (p % 101) < x + 1) → mirroredBy (q .mx) (p % 101) < x + 1
     narrow p i o (yes h) = h
     narrow p i o (no h) = absurd (o (record { left = omega arith; right = omega (arith, i .right); top = i .top; bottom = i .bottom }))
