@@ -51,7 +51,9 @@ display-at (EndlessBytes false) b number s t = absurd (false-true t)
 display-at Reading b number s t = absurd (false-true t)
 display-at ReadEnded b number s t = absurd (false-true t)
 
-pub ignored-at : (p : Phase) (b number : ℕ) (s : State) → s .chip .phase ≡ p → ignoresBytes p ≡ true → onByte p b number s ≡ nothingStored NotAcknowledged (inPhase (s .chip) (phaseAfterIgnored p)) s
+pub ignored-at :
+    (p : Phase) (b number : ℕ) (s : State) → s .chip .phase ≡ p → ignoresBytes p ≡ true
+    → onByte p b number s ≡ nothingStored NotAcknowledged (inPhase (s .chip) (phaseAfterIgnored p)) s
 ignored-at Idle b number s e t = same-phase s Idle e
 ignored-at AddressAwaited b number s e t = absurd (false-true t)
 ignored-at Ignoring b number s e t = same-phase s Ignoring e

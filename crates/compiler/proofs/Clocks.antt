@@ -13,7 +13,7 @@ use Rattle.registers.specs.Reversed.{ordered}
 use Rattle.chip.specs.Plays.{writeAddress}
 use Rattle.compiler.specs.Stream.{across, down, firstX, fill, byteEvents}
 use Rattle.compiler.specs.Writes.{runEvents, runsFrom, fillCount}
-use Rattle.compiler.proofs.Fills.{ordered-byte}
+use Rattle.compiler.proofs.RunPlays.{ordered-byte}
 use Rattle.compiler.proofs.Writes.{across-runs, down-runs, across-length, down-length, first-x-limit}
 
 pub bytes-append : (xs ys : List ℕ) → byteEvents (xs ++ ys) ≡ byteEvents xs + byteEvents ys

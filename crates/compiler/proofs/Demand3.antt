@@ -18,9 +18,9 @@ use Rattle.lists.proofs.Readings.{reading-accepted}
 use Rattle.compiler.specs.Demand3.{Demand3}
 use Rattle.compiler.specs.Plain.{Picture, pictureOf, cellsAfter, registersAfter, plain}
 use Rattle.compiler.specs.Stream.{lineEvents, stream}
-use Rattle.compiler.proofs.Fill.{Shows, fill-plays}
+use Rattle.compiler.proofs.FillPlays.{Shows, fill-plays}
 use Rattle.compiler.proofs.Fits.{LineFits, AllFit, all-fit}
-use Rattle.compiler.proofs.Set.{set-plays}
+use Rattle.compiler.proofs.SetPlays.{set-plays}
 
 line-plays :
     (l : Line) → LineFits l → (q : Registers) (m : List ℕ) (pins k : ℕ) (s : State) → Shows q m pins (length (lineEvents pins l q) + k) s

@@ -37,7 +37,9 @@ singles-bytes [] es h = omega arith
 singles-bytes (b ∷ bs) es h = omega (arith, byte-counts b (h .0), singles-bytes bs es (h .1))
 
 module _ {l m r : List ℕ} {i j k : ℕ} where
-  pub command-turn : (bs : List ℕ) (n : ℕ) → n < length bs → Wrote l i (128 ∷ getD bs n 0 ∷ []) m j → Wrote m j (singles (drop (n + 1) bs) []) r k → Wrote l i (singles (drop n bs) []) r k
+  pub command-turn :
+      (bs : List ℕ) (n : ℕ) → n < length bs → Wrote l i (128 ∷ getD bs n 0 ∷ []) m j → Wrote m j (singles (drop (n + 1) bs) []) r k
+      → Wrote l i (singles (drop n bs) []) r k
   command-turn bs n h a b = subst (λ (es : List ℕ). Wrote l i es r k) (sym (singles-next bs n h)) (wrote-then a b)
 
 pub commands-done : (l : List ℕ) (i : ℕ) (bs : List ℕ) (n : ℕ) → length bs ≤ n → Wrote l i (singles (drop n bs) []) l i

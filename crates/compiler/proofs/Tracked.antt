@@ -16,7 +16,7 @@ use Rattle.compiler.specs.Plain.{setTo, registersAfter}
 use Rattle.compiler.specs.Stream.{setCommands}
 use Rattle.compiler.specs.Writes.{Tracked}
 use Rattle.compiler.proofs.Fits.{LineFits}
-use Rattle.compiler.proofs.Set.{SetFits, put-blank, blank-allowed, set-bytes, grey-bounds}
+use Rattle.compiler.proofs.SetPlays.{SetFits, put-blank, blank-allowed, set-bytes, grey-bounds}
 
 pub blank-tracked : (r : Registers) → allowedRegisters r ≡ true → Tracked (blank r)
 blank-tracked r ok = record { is-blank = refl; within = blank-allowed r ok }

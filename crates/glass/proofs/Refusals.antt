@@ -10,6 +10,7 @@ use Rattle.registers.specs.declared.Chip.{Chip}
 use Rattle.registers.specs.Record.{allowed}
 use Rattle.registers.specs.Refusals.{refuse, _then_}
 use Rattle.registers.specs.State.{places}
+use Rattle.registers.proofs.Below.{false-true}
 use Rattle.glass.specs.Glass.{offGlass, placeRefusal, glassRefusal}
 use Rattle.glass.specs.When.{OnGlass, PlaceWhen, GlassWhen}
 
@@ -25,7 +26,7 @@ module _ (row column : ℕ) where
       go false true ea eb h = let z : _≡_ {A = ℕ} 0 1 = cc in absurd (omega arith)
 
   pub not-on-glass : offGlass row column ≡ true → OnGlass row column → ⊥
-  not-on-glass h there = let z : _≡_ {A = Bool} false true = simp (le-ltb 66 row (there .row-there), le-ltb 100 column (there .column-there)) at h in let y : _≡_ {A = ℕ} 0 1 = cc in omega arith
+  not-on-glass h there = false-true (simp (le-ltb 66 row (there .row-there), le-ltb 100 column (there .column-there)) at h)
 
   pub is-on : OnGlass row column → offGlass row column ≡ false
   is-on there = simp (le-ltb 66 row (there .row-there), le-ltb 100 column (there .column-there))

@@ -18,11 +18,14 @@ place-at-requires c κs = (c .ram-row .ensures .1, place-accepts _ _ _ _ (c .bef
 
 cast-t9 : tie.Need-cast-t9
 cast-t9 c =
-    omega (arith, place-accepts _ _ _ _ (c .before .before .before .before .of-place .ensures) (c .before .before .before .if1 .left) .1 .column-there, c .before .ram-row .ensures .1, c .place-at .ensures)
+    let passed = c .before .before .before in
+    let there = place-accepts _ _ _ _ (passed .before .of-place .ensures) (passed .if1 .left) .1 in
+    omega (arith, there .column-there, c .before .ram-row .ensures .1, c .place-at .ensures)
 
 returns-2 : tie.Need-returns-2
 returns-2 c =
-    place-found _ _ _ _ (c .before .before .before .before .of-place .ensures) _ _ (c .before .before .before .if1 .left) (c .before .ram-row .ensures .0) (c .place-at .ensures)
+    let passed = c .before .before .before in
+    place-found _ _ _ _ (passed .before .of-place .ensures) _ _ (passed .if1 .left) (c .before .ram-row .ensures .0) (c .place-at .ensures)
 
 pub place-spec : {M : Type 1} → statement M
 place-spec =

@@ -77,10 +77,14 @@ returns-6 : tie.Need-returns-6
 returns-6 c number m w = no-content _ _ _ _ (c .before .enum-told6 .given .1) refl (c .before .before .before .pre)
 
 returns-7 : tie.Need-returns-7
-returns-7 c number m w = in-told-phase _ _ _ _ _ _ (c .before .before .enum-told7 .given .1) (simp (c .not-acknowledged5 .ensures .0, c .not-acknowledged5 .ensures .1, c .before .in-phase .ensures))
+returns-7 c number m w =
+    in-told-phase _ _ _ _ _ _ (c .before .before .enum-told7 .given .1)
+    (simp (c .not-acknowledged5 .ensures .0, c .not-acknowledged5 .ensures .1, c .before .in-phase .ensures))
 
 returns-8 : tie.Need-returns-8
-returns-8 c number m w = in-told-phase _ _ _ _ _ _ (c .before .before .enum-told8 .given .1) (simp (c .not-acknowledged6 .ensures .0, c .not-acknowledged6 .ensures .1, c .before .in-phase2 .ensures))
+returns-8 c number m w =
+    in-told-phase _ _ _ _ _ _ (c .before .before .enum-told8 .given .1)
+    (simp (c .not-acknowledged6 .ensures .0, c .not-acknowledged6 .ensures .1, c .before .in-phase2 .ensures))
 
 pub on-plain-byte-spec : {M : Type 1} → statement M
 on-plain-byte-spec =

@@ -21,7 +21,7 @@ use Rattle.chip.proofs.Plays.{plays-weaken}
 use Rattle.lists.specs.Syntax.{ValidFill}
 use Rattle.compiler.specs.Plain.{isInside, filledFrom, filled}
 use Rattle.compiler.specs.Stream.{across, down, fill, firstX}
-use Rattle.compiler.proofs.Fills.{Drawn, seen-allowed, across-plays, down-plays}
+use Rattle.compiler.proofs.RunPlays.{Drawn, seen-allowed, across-plays, down-plays}
 
 -- ---- the plain reading fills the same cells
 
@@ -121,7 +121,9 @@ pub fill-plays :
     → Plays (fill pins q c0 c1 b0 b1 n) (Shows q (filled c0 c1 b0 b1 n m) pins k) s
 fill-plays c0 c1 b0 b1 n fits q m pins k s shows = go (eqb (q .v) 1) refl
   where
-    end : (es : List ℕ) → Plays es (Drawn (In (q .mx) (firstX (q .mx) c0 c1) (c1 - c0 + 1) b0 (b1 - b0 + 1)) n m q pins k) s → Plays es (Shows q (filled c0 c1 b0 b1 n m) pins k) s
+    end :
+        (es : List ℕ) → Plays es (Drawn (In (q .mx) (firstX (q .mx) c0 c1) (c1 - c0 + 1) b0 (b1 - b0 + 1)) n m q pins k) s
+        → Plays es (Shows q (filled c0 c1 b0 b1 n m) pins k) s
     end es p =
         plays-weaken es (Drawn (In (q .mx) (firstX (q .mx) c0 c1) (c1 - c0 + 1) b0 (b1 - b0 + 1)) n m q pins k) (Shows q (filled c0 c1 b0 b1 n m) pins k) s
         (λ t d.

@@ -25,9 +25,9 @@ use Rattle.chip.proofs.Plays.{plays-weaken, message-plays}
 use Rattle.chip.proofs.Rows.{leads-bytes, row-does, return-does, page-does}
 use Rattle.compiler.specs.Plain.{setTo}
 use Rattle.compiler.specs.Stream.{pageOf, leave, enter, rowBytes, setCommands}
-use Rattle.compiler.proofs.Fill.{Shows}
-use Rattle.compiler.proofs.Fills.{seen-allowed, seen-page}
-use Rattle.compiler.proofs.Sets.{at, simple-fits, aimed-at, partsFor, isApart, SimpleRow, simple-row, shows-target, blank-at, blank-self, put-at}
+use Rattle.compiler.proofs.FillPlays.{Shows}
+use Rattle.compiler.proofs.RunPlays.{seen-allowed, seen-page}
+use Rattle.compiler.proofs.SetRows.{at, simple-fits, aimed-at, partsFor, isApart, SimpleRow, simple-row, shows-target, blank-at, blank-self, put-at}
 
 -- ---- one row in its page, from page 0 and back
 

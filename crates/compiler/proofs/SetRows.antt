@@ -97,7 +97,9 @@ abbrev pub isApart : ℕ → Bool
 isApart f = eqb f H || eqb f X || eqb f Y || isGrey f
 
 abbrev hasSimpleRow : ℕ → Bool
-hasSimpleRow f = isApart f || (allSimple (partsFor f) && hasField f (partsFor f) && not (hasField H (partsFor f)) && ltb (rowFor f) 21 && leb (getD rows (rowFor f) noRow .page) 4)
+hasSimpleRow f =
+    isApart f
+    || (allSimple (partsFor f) && hasField f (partsFor f) && not (hasField H (partsFor f)) && ltb (rowFor f) 21 && leb (getD rows (rowFor f) noRow .page) 4)
 
 all-simple-rows : T (allBelow 29 hasSimpleRow)
 all-simple-rows = tt
@@ -124,7 +126,8 @@ false-of false t = refl
 pub simple-row : (f : ℕ) → f < 29 → isApart f ≡ false → SimpleRow f
 simple-row f l e =
     let all = or-right (isApart f) _ e (below-at 29 hasSimpleRow all-simple-rows f l) in
-    let abcd = and-left (allSimple (partsFor f) && hasField f (partsFor f) && not (hasField H (partsFor f)) && ltb (rowFor f) 21) (leb (getD rows (rowFor f) noRow .page) 4) all in
+    let first-four = allSimple (partsFor f) && hasField f (partsFor f) && not (hasField H (partsFor f)) && ltb (rowFor f) 21 in
+    let abcd = and-left first-four (leb (getD rows (rowFor f) noRow .page) 4) all in
     let abc = and-left (allSimple (partsFor f) && hasField f (partsFor f) && not (hasField H (partsFor f))) (ltb (rowFor f) 21) abcd in
     let ab = and-left (allSimple (partsFor f) && hasField f (partsFor f)) (not (hasField H (partsFor f))) abc in
     record {
@@ -132,7 +135,7 @@ simple-row f l e =
       own = true-of _ (and-right (allSimple (partsFor f)) (hasField f (partsFor f)) ab);
       not-page = false-of _ (and-right (allSimple (partsFor f) && hasField f (partsFor f)) (not (hasField H (partsFor f))) abc);
       listed = ltb→lt _ _ (and-right (allSimple (partsFor f) && hasField f (partsFor f) && not (hasField H (partsFor f))) (ltb (rowFor f) 21) abcd);
-      page = leb→le _ _ (and-right (allSimple (partsFor f) && hasField f (partsFor f) && not (hasField H (partsFor f)) && ltb (rowFor f) 21) (leb (getD rows (rowFor f) noRow .page) 4) all);
+      page = leb→le _ _ (and-right first-four (leb (getD rows (rowFor f) noRow .page) 4) all);
     }
 
 -- ---- the plain reading's registers
