@@ -181,7 +181,7 @@ end-fit text m w end r = all-done-fit (r .pins) (r .events) m w end (r .pins-all
 
 -- ---- the last writer
 
--- each cell after a capture that is replayed over memories of zeros: no event landed there and it has no writer, or the last one that did is named
+-- each cell after a capture that is replayed over memories of zeros: no event was stored there and it has no writer, or the last one that was is named
 -- by the writer, from 1, and left its byte
 pub last-writers : (text : List ℕ) (end : State) (r : Replayed text zeros zeros end) (k : ℕ) → CellAfter (r .pins) (r .events) end k
 last-writers text end r k =

@@ -14,7 +14,7 @@ zeros = replicate places 0
 abbrev pub start : ℕ → State
 start pins = started pins zeros zeros
 
--- no event of the capture landed at place k, and byte and writer are 0 as at the start; or the last that did left its stored byte there, and its
+-- no event of the capture was stored at place k, and byte and writer are 0 as at the start; or the last that was left its stored byte there, and its
 -- number from 1
 abbrev pub CellAfter : ℕ → List ℕ → State → ℕ → Type 0
 CellAfter pins es end k = Untouched es (length es) (start pins) end k ⊎ Written es (length es) (start pins) end k

@@ -33,7 +33,7 @@ module _ (text : List ℕ) (end : State) (r : Replayed text zeros zeros end) (c 
             last = w .event;
             numbered = sym (h .writer) ∙ w .writer ∙ zero-add (w .event + 1);
             is-event = w .is-done;
-            landed = w .landed;
+            is-stored = w .is-stored;
             none-after = w .is-last;
             byte = sym (h .stored) ∙ w .byte;
           }
@@ -45,15 +45,15 @@ module _ (text : List ℕ) (end : State) (r : Replayed text zeros zeros end) (c 
   same-last w n = go (decLt (w .event) (n .last)) (decLt (n .last) (w .event))
     where
       go : Dec (w .event < n .last) → Dec (n .last < w .event) → w .event ≡ n .last
-      go (yes a) b = absurd (w .is-last (n .last) a (n .is-event) (n .landed))
-      go (no a) (yes b) = absurd (n .none-after (w .event) b (w .is-done) (w .landed))
+      go (yes a) b = absurd (w .is-last (n .last) a (n .is-event) (n .is-stored))
+      go (no a) (yes b) = absurd (n .none-after (w .event) b (w .is-done) (w .is-stored))
       go (no a) (no b) = omega arith
 
   pub listed : NamesLastWriter (r .pins) (r .events) c → WrittenCell (end .memory) (end .writers) c
   listed n = go (last-writers text end r (101 * c .bank + c .column))
     where
       go : CellAfter (r .pins) (r .events) end (101 * c .bank + c .column) → WrittenCell (end .memory) (end .writers) c
-      go (inl u) = absurd (u .none (n .last) (n .is-event) (n .landed))
+      go (inl u) = absurd (u .none (n .last) (n .is-event) (n .is-stored))
       go (inr w) =
           let same : w .event ≡ n .last = same-last w n in
           record {

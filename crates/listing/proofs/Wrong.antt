@@ -5,7 +5,7 @@ use mathlib.Core.Path.{_≡_, refl, subst}
 use Prim.Native.Nat.{ℕ, _+_, _*_, _<_}
 use native.Mathlib.Omega.{arith}
 use lib.ListN.{getD, length}
-use Rattle.chip.specs.LastWriter.{Lands, before}
+use Rattle.chip.specs.LastWriter.{StoredAt, before}
 use Rattle.capture.specs.Cells.{start}
 use Rattle.listing.specs.LastWriters.{NamesLastWriter}
 use Rattle.listing.specs.Listing.{Cell, cell, cellsOf}
@@ -31,5 +31,5 @@ module _ (pins : ℕ) (es : List ℕ) (c : Cell) (named : NamesLastWriter pins e
 
   -- an event named after which another byte was stored there
   pub not-an-earlier-one :
-      (j : ℕ) → c .event < j + 1 → j < length es → Lands (getD es j 0) (before es j (start pins)) (101 * c .bank + c .column) → ⊥
-  not-an-earlier-one j l h landed = named .none-after j (omega (arith, named .numbered)) h landed
+      (j : ℕ) → c .event < j + 1 → j < length es → StoredAt (getD es j 0) (before es j (start pins)) (101 * c .bank + c .column) → ⊥
+  not-an-earlier-one j l h stored = named .none-after j (omega (arith, named .numbered)) h stored

@@ -4,7 +4,7 @@ use mathlib.Core.Logic.{_↔_}
 use mathlib.Core.Path.{_≡_}
 use Prim.Native.Nat.{ℕ, _+_, _*_, _≤_, _<_}
 use lib.ListN.{getD, length}
-use Rattle.chip.specs.LastWriter.{Lands, before}
+use Rattle.chip.specs.LastWriter.{StoredAt, before}
 use Rattle.chip.specs.Promised.{storedOf}
 use Rattle.capture.specs.Cells.{start}
 use Rattle.listing.specs.Listing.{Cell, header, cellsText}
@@ -18,8 +18,8 @@ pub record NamesLastWriter (pins : ℕ) (es : List ℕ) (c : Cell) : Type 0 wher
   pub last : ℕ
   pub numbered : c .event ≡ last + 1
   pub is-event : last < length es
-  pub landed : Lands (getD es last 0) (before es last (start pins)) (101 * c .bank + c .column)
-  pub none-after : (j : ℕ) → last < j → j < length es → Lands (getD es j 0) (before es j (start pins)) (101 * c .bank + c .column) → ⊥
+  pub is-stored : StoredAt (getD es last 0) (before es last (start pins)) (101 * c .bank + c .column)
+  pub none-after : (j : ℕ) → last < j → j < length es → StoredAt (getD es j 0) (before es j (start pins)) (101 * c .bank + c .column) → ⊥
   pub byte : c .byte ≡ storedOf (before es last (start pins) .chip .registers) (getD es last 0)
 
 -- the text is the header and a line for each cell that names its last writer, and no others, by bank, then column
