@@ -20,7 +20,8 @@ use Rattle.engine.specs.Event.{eventOf, numberOf, isAcknowledged}
 use Rattle.engine.specs.Step.{After, acknowledge, controlled, pulsed, sensed, contentOf, onByte, applied, accepted, counted, refusalOf, stepOf}
 use Rattle.engine.specs.Run.{runOf}
 use Rattle.engine.proofs.Refusals.{accepts}
-use Rattle.chip.specs.LastWriter.{before, Lands, LastWriter}
+use Rattle.chip.specs.LastWriter.{before, LastWriter}
+use Rattle.chip.specs.LastWriter as chip
 use Rattle.chip.specs.Phases.{awaitsData}
 use Rattle.chip.specs.Plays.{played}
 use Rattle.chip.specs.Promised.{storedOf}
@@ -32,7 +33,7 @@ use Rattle.record_words.specs.Words.{STATUS, COUNT, phaseRs, bit, standsFor, ch
 use Rattle.record_words.proofs.Laws.{words-chip-words, chip-words-chip, allowed-stands}
 use Rattle.record_words.proofs.Stands.{stands-at}
 use Rattle.host.specs.Calls.{noRecord, Stepped, afterStep, stepCall, Ran, ran, afterRun, runCall}
-use Rattle.host.specs.Playing.{Buffers, buffers, stepOn, runOn, uponEvent, afterEvents, pictureIn, PlayedByCalls, StoredAt, LastWriterByCalls}
+use Rattle.host.specs.Playing.{Buffers, buffers, stepOn, runOn, uponEvent, afterEvents, pictureIn, PlayedByCalls, StoredByCall, LastWriterByCalls}
 
 -- ---- what an accepted event gives: an answer that is no refusal, and a status that is a byte
 
@@ -268,9 +269,9 @@ module _ (e : ℕ) (s : State) (k : ℕ) (h : Stands s) where
   of-call : stepOn e (buffersOf s) .number ≡ numberOf (stepOf e s .answer)
   of-call = ap (λ (r : Stepped). r .number) (call-steps s h e)
 
-  pub lands-there : refusalOf e s ≡ 0 → StoredAt e (buffersOf s) k → Lands e s k
+  pub chip-stored : refusalOf e s ≡ 0 → StoredByCall e (buffersOf s) k → chip.StoredAt e s k
   unfolding wordsOf
-  lands-there r st =
+  chip-stored r st =
       record {
         is-byte = st .is-byte;
         is-data = data-rs (s .chip .phase) ∙ bit-one (phaseRs (s .chip .phase)) (st .is-data);
@@ -278,9 +279,9 @@ module _ (e : ℕ) (s : State) (k : ℕ) (h : Stands s) where
         at-place = st .at-place;
       }
 
-  pub stored-there : Lands e s k → StoredAt e (buffersOf s) k
+  pub call-stored : chip.StoredAt e s k → StoredByCall e (buffersOf s) k
   unfolding wordsOf
-  stored-there st =
+  call-stored st =
       record {
         is-byte = st .is-byte;
         is-data = ap bit (sym (data-rs (s .chip .phase)) ∙ st .is-data);
@@ -301,10 +302,10 @@ module _ (es : List ℕ) (s : State) (k : ℕ) (h : Stands s) where
   upon : (i : ℕ) → i < done → (uponEvent es i (buffersOf s) ≡ buffersOf (before es i s)) × Stands (before es i s)
   upon i l = upon-event es done i s h taken (omega arith) (omega (arith, run-steps es s .no-more))
 
-  lands : (i : ℕ) → i < done → StoredAt (getD es i 0) (uponEvent es i (buffersOf s)) k → Lands (getD es i 0) (before es i s) k
-  lands i l st =
-      lands-there (getD es i 0) (before es i s) k (upon i l .1) (taken i l)
-      (subst (λ (b : Buffers). StoredAt (getD es i 0) b k) (upon i l .0) st)
+  stored-by-chip : (i : ℕ) → i < done → StoredByCall (getD es i 0) (uponEvent es i (buffersOf s)) k → chip.StoredAt (getD es i 0) (before es i s) k
+  stored-by-chip i l st =
+      chip-stored (getD es i 0) (before es i s) k (upon i l .1) (taken i l)
+      (subst (λ (b : Buffers). StoredByCall (getD es i 0) b k) (upon i l .0) st)
 
   memory-byte : getD (runOn es (buffersOf s) .memory) k 0 ≡ getD (runOf es s .state .memory) k 0
   memory-byte = ap (λ (r : Ran). getD (r .memory) k 0) (call-runs es s h)
@@ -317,7 +318,7 @@ module _ (es : List ℕ) (s : State) (k : ℕ) (h : Stands s) where
   from-chip (inl u) =
       inl
       record {
-        none = λ i l st. u .none i (omega (arith, did)) (lands i (omega (arith, did)) st);
+        none = λ i l st. u .none i (omega (arith, did)) (stored-by-chip i (omega (arith, did)) st);
         byte = memory-byte ∙ u .byte;
         writer = writer-number ∙ u .writer;
       }
@@ -328,9 +329,9 @@ module _ (es : List ℕ) (s : State) (k : ℕ) (h : Stands s) where
         event = i;
         is-done = omega (arith, did, w .is-done);
         stored =
-            subst (λ (b : Buffers). StoredAt (getD es i 0) b k) (sym (upon i (w .is-done) .0))
-            (stored-there (getD es i 0) (before es i s) k (upon i (w .is-done) .1) (w .landed));
-        is-last = λ j later l st. w .is-last j later (omega (arith, did)) (lands j (omega (arith, did)) st);
+            subst (λ (b : Buffers). StoredByCall (getD es i 0) b k) (sym (upon i (w .is-done) .0))
+            (call-stored (getD es i 0) (before es i s) k (upon i (w .is-done) .1) (w .is-stored));
+        is-last = λ j later l st. w .is-last j later (omega (arith, did)) (stored-by-chip j (omega (arith, did)) st);
         byte =
             memory-byte ∙ w .byte
             ∙ ap (λ (b : Buffers). storedOf (ofValues (b .words)) (getD es i 0)) (sym (upon i (w .is-done) .0));

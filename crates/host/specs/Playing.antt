@@ -71,7 +71,7 @@ pub record DrawnByCalls (ws text : List ℕ) (n : ℕ) (out : List ℕ) : Type 0
 -- ---- the last writer
 
 -- event e, lent these buffers, is an acknowledged display byte at place k
-pub record StoredAt (e : ℕ) (b : Buffers) (k : ℕ) : Type 0 where
+pub record StoredByCall (e : ℕ) (b : Buffers) (k : ℕ) : Type 0 where
   pub is-byte : e < 256
   -- bytes with RS 1 are awaited
   pub is-data : getD (b .words) PHASE-RS 0 ≡ 1
@@ -80,7 +80,7 @@ pub record StoredAt (e : ℕ) (b : Buffers) (k : ℕ) : Type 0 where
 
 -- of the events that the run did none was stored at k: byte and writer are as they were
 pub record NoneStored (es : List ℕ) (b : Buffers) (k : ℕ) : Type 0 where
-  pub none : (i : ℕ) → i < runOn es b .done → StoredAt (getD es i 0) (uponEvent es i b) k → ⊥
+  pub none : (i : ℕ) → i < runOn es b .done → StoredByCall (getD es i 0) (uponEvent es i b) k → ⊥
   pub byte : getD (runOn es b .memory) k 0 ≡ getD (b .memory) k 0
   pub writer : getD (runOn es b .writers) k 0 ≡ getD (b .writers) k 0
 
@@ -88,8 +88,8 @@ pub record NoneStored (es : List ℕ) (b : Buffers) (k : ℕ) : Type 0 where
 pub record LastStored (es : List ℕ) (b : Buffers) (k : ℕ) : Type 0 where
   pub event : ℕ
   pub is-done : event < runOn es b .done
-  pub stored : StoredAt (getD es event 0) (uponEvent es event b) k
-  pub is-last : (j : ℕ) → event < j → j < runOn es b .done → StoredAt (getD es j 0) (uponEvent es j b) k → ⊥
+  pub stored : StoredByCall (getD es event 0) (uponEvent es event b) k
+  pub is-last : (j : ℕ) → event < j → j < runOn es b .done → StoredByCall (getD es j 0) (uponEvent es j b) k → ⊥
   pub byte : getD (runOn es b .memory) k 0 ≡ storedOf (ofValues (uponEvent es event b .words)) (getD es event 0)
   pub writer : getD (runOn es b .writers) k 0 ≡ getD (b .words) COUNT 0 + (event + 1)
 
