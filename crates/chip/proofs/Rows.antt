@@ -1,5 +1,5 @@
 -- What command bytes do that were made from the table.
-use mathlib.Core.List.{List, [], _∷_, _++_}
+use mathlib.Core.List.{List, [], _∷_}
 use mathlib.Core.Path.{_≡_, refl, sym, ap, _∙_, subst}
 use Prim.Native.Nat.{ℕ, _+_, _*_, _≤_, _<_}
 use native.Mathlib.Omega.{arith}
@@ -21,10 +21,6 @@ use Rattle.chip.specs.Plays.{Does, Leads, advanced, Bytes}
 use Rattle.chip.specs.Plays.Leads.{no-more, by}
 
 -- ---- chains of commands
-
-pub leads-append : {xs ys : List ℕ} {r q r′ : Registers} → Leads xs r q → Leads ys q r′ → Leads (xs ++ ys) r r′
-leads-append no-more l = l
-leads-append (by d k) l = by d (leads-append k l)
 
 pub leads-bytes : {bs : List ℕ} {r r′ : Registers} → Leads bs r r′ → Bytes bs
 leads-bytes no-more = tt

@@ -34,11 +34,6 @@ pub fit-entry : (s : State) → Fit s → entryRefusal s ≡ 0
 unfolding entryRefusal
 fit-entry s fit = simp (eq-eqb _ _ (fit .memory-long), eq-eqb _ _ (fit .writers-long), fit .is-allowed)
 
--- where 1 and 2 let a state pass, the refusal is the event's own
-pub fit-refusal : (e : ℕ) (s : State) → Fit s → refusalOf e s ≡ eventRefusal e (s .chip .count)
-unfolding refusalOf
-fit-refusal e s fit = rw (fit-entry s fit)
-
 pub accepts : (e : ℕ) (s : State) → refusalOf e s ≡ 0 → Accepts e s
 unfolding refusalOf eventRefusal
 accepts e s h =
