@@ -38,7 +38,7 @@ FACTS = [
 NO_FACT = r"has no `Need-|is not a field of|not in scope|does not use the library|cannot be unfolded here"
 OTHER_FACT = r"expected type `[^`]*\bNeed-[^`]*`,?\s+but this has type `[^`]*\bNeed-"
 FOLLOWS = r"not admitted"
-WALL = r"does not use the library|cannot be unfolded here|this module may not unfold it"
+WALL = r"does not use the library|cannot be unfolded here|this module may not unfold it|does not unfold here"
 
 RUST_ITEM = re.compile(r"^ *(?:pub )?(?:extern \"C\" )?(?:fn|const|static|struct|enum|impl) (\w+)", re.M)
 LEMMA_ITEM = re.compile(r"^(?!--|use |pub use |unfolding |mod |pub mod )"
