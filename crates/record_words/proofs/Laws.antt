@@ -16,7 +16,7 @@ use Rattle.registers.proofs.Below.{allBelow, below-at}
 use Rattle.registers.proofs.Within.{both-left, both-right}
 use Rattle.registers.proofs.Tables.{listed}
 use Rattle.record_words.specs.declared.Read.the-variants.{Record, NoRecord}
-use Rattle.record_words.specs.Words.{wordLimits, recordLength, standsFor, chipOf, wordsOf, phaseOf, phaseNumber, phaseRs, rsFits, bit, isSet, readOf, stored}
+use Rattle.record_words.specs.Words.{wordLimits, recordLength, standsFor, chipOf, wordsOf, phaseOf, phaseNumber, phaseRs, rsFits, bit, isSet, readOf, readNumber, stored}
 use Rattle.record_words.proofs.Stands.{true-of, in-words, stands-length, stands-within, stands-at, stands-rs}
 
 -- ---- words, record, words
@@ -156,6 +156,15 @@ module _ (ws : List ℕ) where
     where
       there : (t : Bool) → standsFor ws ≡ t → cond t (Record (chipOf ws)) NoRecord ≡ NoRecord → standsFor ws ≡ false
       there true h e = let z : _≡_ {A = ℕ} 0 1 = cc in absurd (omega arith)
+      there false h e = h
+
+  -- in document 01's numbers: 2 comes exactly where the words stand for no record
+  pub two-exactly : (readNumber (readOf ws) ≡ 2) ↔ (standsFor ws ≡ false)
+  unfolding readOf
+  two-exactly = (there (standsFor ws) refl, λ h. rw h)
+    where
+      there : (t : Bool) → standsFor ws ≡ t → readNumber (cond t (Record (chipOf ws)) NoRecord) ≡ 2 → standsFor ws ≡ false
+      there true h e = absurd (omega arith)
       there false h e = h
 
   -- a buffer that stood for a record takes another
