@@ -4,8 +4,8 @@ use mathlib.Core.Path.{_≡_, ap}
 use Prim.Native.Nat.{ℕ, _+_, _-_, _≤_, _<_}
 use native.Mathlib.Omega.{arith}
 use lib.ListN.{length, getD}
-use Rattle.text.specs.Printed.{top, Wrote, decimalOf, partsFrom}
-use Rattle.text.proofs.Writing.{wrote-same, parts-turn, parts-end}
+use Rattle.print.specs.Printed.{top, Wrote, decimalOf, partsFrom}
+use Rattle.print.proofs.Writing.{wrote-same, parts-turn, parts-end}
 use Rattle.draw.specs.Lines.{eventLine, eventsText}
 
 -- all of them are left at the start

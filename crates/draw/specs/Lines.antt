@@ -2,7 +2,7 @@
 use mathlib.Core.List.{List, [], _∷_, _++_}
 use Prim.Native.Nat.{ℕ}
 use lib.ListN.{length, getD}
-use Rattle.text.specs.Printed.{decimalOf, partsFrom}
+use Rattle.print.specs.Printed.{decimalOf, partsFrom}
 
 abbrev pub eventLine : List ℕ → ℕ → List ℕ
 eventLine es k = decimalOf (getD es k 0) ++ 10 ∷ []

@@ -1,7 +1,7 @@
 // draw PINS [LIST]: prints the capture that plays a drawing list on a chip after reset, or the one line that says why the compiler refuses it.
 // The list is the file that LIST names, or standard input. Nothing is printed before the whole list is known to be good.
 mod input;
-mod print;
+mod output;
 
 use registers::Chip;
 use text::Number;
@@ -33,7 +33,7 @@ fn is_good(chip: Chip, list: &[u8]) -> bool {
     if told.number == 10 {
         return true;
     }
-    print::refused(told.number, told.line);
+    output::refused(told.number, told.line);
     false
 }
 
@@ -53,7 +53,7 @@ fn draw_line(
     if out.len() < n {
         return chip;
     }
-    print::events(&out[..n]);
+    output::events(&out[..n]);
     engine::run::run(chip, memory, writers, &out[..n]).chip
 }
 
@@ -74,7 +74,7 @@ fn draw_good(chip: Chip, list: &[u8]) {
     let mut memory = [0u8; 1717];
     let mut writers = [0u64; 1717];
     if is_good(chip, list) {
-        print::first_line(chip.pins);
+        output::first_line(chip.pins);
         draw(chip, list, &mut out, &mut memory, &mut writers);
     }
 }

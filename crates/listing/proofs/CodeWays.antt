@@ -6,10 +6,10 @@ use borrow.Author.Tests.{eq-eqb, ne-eqb}
 use lib.ListN.{length, getD}
 use Rattle.registers.specs.Refusals.{lengthsRefusal}
 use Rattle.registers.specs.State.{places}
-use Rattle.text.specs.declared.print.Written.the-variants.{Refused}
 use Rattle.text.specs.Text.{bytes}
-use Rattle.text.specs.Printed.{decimalOf, top, Wrote, partsFrom, Outcome, outcome}
-use Rattle.text.proofs.Writing.{wrote-then, wrote-same, wrote-none}
+use Rattle.print.specs.declared.Written.the-variants.{Refused}
+use Rattle.print.specs.Printed.{decimalOf, top, Wrote, partsFrom, Outcome, outcome}
+use Rattle.print.proofs.Writing.{wrote-then, wrote-same, wrote-none}
 use Rattle.capture.specs.declared.End.{End}
 use Rattle.capture.specs.Feeding.{meaning}
 use Rattle.listing.specs.Listing.{cell, cellsAt, header, cellText, cellsText, listingOf, refusedOf}

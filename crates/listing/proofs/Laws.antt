@@ -10,9 +10,9 @@ use lib.ListN.{getD, length}
 use lib.Seq.{sets}
 use Rattle.registers.specs.Refusals.{lengthsRefusal}
 use Rattle.registers.specs.State.{State, state, places}
-use Rattle.text.specs.declared.print.Written.the-variants.{Text, Short, Refused}
 use Rattle.text.specs.Text.{bytes}
-use Rattle.text.specs.Printed.{decimalOf, outcome, wholeText}
+use Rattle.print.specs.declared.Written.the-variants.{Text, Short, Refused}
+use Rattle.print.specs.Printed.{decimalOf, outcome, wholeText}
 use Rattle.chip.specs.Promised.{Fit}
 use Rattle.capture.specs.declared.End.{End}
 use Rattle.capture.specs.declared.End.the-variants as ends

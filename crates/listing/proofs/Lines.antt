@@ -7,9 +7,9 @@ use native.Mathlib.Omega.{arith}
 use lib.Dec.{eqb}
 use lib.ListN.{length, getD, length-append}
 use Rattle.registers.specs.State.{places}
-use Rattle.text.specs.Printed.{decimalOf, partsFrom}
-use Rattle.text.proofs.Digits.{decimal-bound}
-use Rattle.text.proofs.Writing.{parts-bound}
+use Rattle.print.specs.Printed.{decimalOf, partsFrom}
+use Rattle.print.proofs.Digits.{decimal-bound}
+use Rattle.print.proofs.Writing.{parts-bound}
 use Rattle.listing.specs.Listing.{Cell, cell, cellsAt, cellsFrom, cellsOf, header, cellText, cellsText, listingOf, refusedOf}
 
 -- ---- place by place

@@ -7,8 +7,8 @@ use lib.ListN.{length, getD}
 use Rattle.registers.specs.Refusals.{lengthsRefusal}
 use Rattle.registers.specs.State.{places}
 use Rattle.text.specs.Text.{bytes, join}
-use Rattle.text.specs.declared.print.Written.{Written}
-use Rattle.text.specs.Printed.{decimalOf, Outcome, wholeText, writtenNumber}
+use Rattle.print.specs.declared.Written.{Written}
+use Rattle.print.specs.Printed.{decimalOf, Outcome, wholeText, writtenNumber}
 
 -- ---- the cells
 

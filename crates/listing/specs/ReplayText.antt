@@ -3,8 +3,8 @@ use mathlib.Core.List.{List}
 use Prim.Native.Nat.{ℕ, zero, suc}
 use lib.ListN.{length}
 use Rattle.registers.specs.Refusals.{lengthsRefusal}
-use Rattle.text.specs.declared.print.Written.the-variants.{Refused}
-use Rattle.text.specs.Printed.{Outcome, outcome}
+use Rattle.print.specs.declared.Written.the-variants.{Refused}
+use Rattle.print.specs.Printed.{Outcome, outcome}
 use Rattle.capture.specs.declared.End.{End}
 use Rattle.capture.specs.Feeding.{meaning}
 use Rattle.capture.specs.Replay.{Replay, refusedBy, refusedAt, replayed}

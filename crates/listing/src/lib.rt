@@ -3,11 +3,11 @@ ghost use mathlib.Core.Path.{_≡_};
 ghost use Prim.Native.Nat.{_+_, _<_};
 ghost use lib.ListN.{length};
 ghost use Rattle.registers.specs.State.{places};
-ghost use Rattle.text.specs.Printed.{Wrote, outcome};
+ghost use Rattle.print.specs.Printed.{Wrote, outcome};
 ghost use Rattle.listing.specs.Listing.{cell, cellsAt, cellText, cellsText, listingOf, refusedOf, listingCall, refusedCall};
 ghost use Rattle.listing.specs.ReplayText.{replayTextCall};
 use capture::End;
-use text::print::Written;
+use print::Written;
 
 const TAB: u8 = 9;
 
@@ -17,10 +17,10 @@ const NEWLINE: u8 = 10;
 fn cell(column: u64, bank: u64, byte: u64, event: u64, out: &mut [u8], at: usize) -> usize
     ensures { λ r. ⌜ Wrote (now (out .entry)) at (cellText (cell column bank byte event)) (now (out .exit)) r ⌝ }
 {
-    let after_column = text::print::field(column, TAB, out, at);
-    let after_bank = text::print::field(bank, TAB, out, after_column);
-    let after_byte = text::print::field(byte, TAB, out, after_bank);
-    text::print::field(event, NEWLINE, out, after_byte)
+    let after_column = print::field(column, TAB, out, at);
+    let after_bank = print::field(bank, TAB, out, after_column);
+    let after_byte = print::field(byte, TAB, out, after_bank);
+    print::field(event, NEWLINE, out, after_byte)
 }
 
 // The line of place k, if the cell there has a writer.
@@ -47,7 +47,7 @@ fn cells(memory: &[u8], writers: &[u64], out: &mut [u8]) -> usize
     requires { ⌜ (length (now memory) ≡ places) × (length (now writers) ≡ places) ⌝ }
     ensures { λ r. ⌜ Wrote (now (out .entry)) 0 (listingOf (now (memory .entry)) (now (writers .entry))) (now (out .exit)) r ⌝ }
 {
-    let mut at = text::print::bytes(b"column\tbank\tbyte\tevent\n", out, 0);
+    let mut at = print::bytes(b"column\tbank\tbyte\tevent\n", out, 0);
     let mut k = 0;
     while k < 1717 {
         at = cell_at(memory, writers, k, out, at);
@@ -75,9 +75,9 @@ pub fn listing(memory: &[u8], writers: &[u64], out: &mut [u8]) -> Written
 fn refused_line(n: u64, k: u8, out: &mut [u8]) -> usize
     ensures { λ r. ⌜ Wrote (now (out .entry)) 0 (refusedOf (n + k)) (now (out .exit)) r ⌝ }
 {
-    let word = text::print::bytes(b"refused\t", out, 0);
-    let number = text::print::decimal_plus(n, k, out, word);
-    text::print::byte(NEWLINE, out, number)
+    let word = print::bytes(b"refused\t", out, 0);
+    let number = print::decimal_plus(n, k, out, word);
+    print::byte(NEWLINE, out, number)
 }
 
 // The line of a capture that is bad at line n + k, which may be past the largest u64: a capture's event n, from 0, stands in line n + 2.

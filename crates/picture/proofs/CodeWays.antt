@@ -6,8 +6,8 @@ use lib.ListN.{length}
 use Rattle.registers.specs.declared.Chip.{Chip}
 use Rattle.glass.specs.declared.answer.Shown.{Shown}
 use Rattle.glass.specs.Glass.{glassOf}
-use Rattle.text.specs.Printed.{decimalOf, top, Wrote, partsFrom}
-use Rattle.text.proofs.Writing.{wrote-then, wrote-same}
+use Rattle.print.specs.Printed.{decimalOf, top, Wrote, partsFrom}
+use Rattle.print.proofs.Writing.{wrote-then, wrote-same}
 use Rattle.picture.specs.declared.Colour.{Colour}
 use Rattle.picture.specs.Picture.{colourOf, pixelText, header, pixelAt, pixelCount, pixmapOf}
 

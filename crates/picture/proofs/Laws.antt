@@ -16,9 +16,9 @@ use Rattle.glass.specs.When.{OnGlass}
 use Rattle.glass.specs.Pixel.{Pixel, pixelOf, levelOf, placeAt}
 use Rattle.glass.proofs.Refusals.{is-on}
 use Rattle.glass.proofs.Views.{never-refused}
-use Rattle.text.specs.Printed.{partsFrom}
-use Rattle.text.proofs.Digits.{count-append}
-use Rattle.text.proofs.Writing.{parts-split, parts-count}
+use Rattle.text.proofs.Finding.{count-append}
+use Rattle.print.specs.Printed.{partsFrom}
+use Rattle.print.proofs.Writing.{parts-split, parts-count}
 use Rattle.picture.specs.Picture.{grey, colourOf, pixelText, header, pixelAt, pixelCount, pixmapOf, pixmapRefusal}
 use Rattle.picture.specs.Order.{LineAt}
 use Rattle.picture.proofs.Lines.{one-line, pixel-of}

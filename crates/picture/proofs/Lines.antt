@@ -9,9 +9,10 @@ use Rattle.glass.specs.declared.answer.Shown.{Shown}
 use Rattle.glass.specs.declared.answer.Shown.the-variants as shown
 use Rattle.glass.specs.Glass.{glassOf}
 use Rattle.text.specs.Text.{countOf}
-use Rattle.text.specs.Printed.{decimalOf, partsFrom}
-use Rattle.text.proofs.Digits.{decimal-bound, count-append, number-free}
-use Rattle.text.proofs.Writing.{parts-bound}
+use Rattle.text.proofs.Finding.{count-append}
+use Rattle.print.specs.Printed.{decimalOf, partsFrom}
+use Rattle.print.proofs.Digits.{decimal-bound, number-free}
+use Rattle.print.proofs.Writing.{parts-bound}
 use Rattle.picture.specs.declared.Colour.{Colour}
 use Rattle.picture.specs.Picture.{grey, colourOf, pixelText, header, pixelAt, pixelCount, pixmapOf}
 

@@ -8,8 +8,8 @@ use Rattle.glass.specs.declared.answer.Shown.{Shown}
 use Rattle.glass.specs.declared.answer.Shown.the-variants as shown
 use Rattle.glass.specs.Glass.{glassOf}
 use Rattle.text.specs.Text.{bytes, join}
-use Rattle.text.specs.declared.print.Written.{Written}
-use Rattle.text.specs.Printed.{decimalOf, partsFrom, Outcome, wholeText, writtenNumber}
+use Rattle.print.specs.declared.Written.{Written}
+use Rattle.print.specs.Printed.{decimalOf, partsFrom, Outcome, wholeText, writtenNumber}
 use Rattle.picture.specs.declared.Colour.{Colour}
 
 -- ---- colours

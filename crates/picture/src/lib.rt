@@ -1,10 +1,10 @@
 // The glass as a portable pixmap, for any viewer of pictures.
 ghost use mathlib.Core.Path.{_≡_};
-ghost use Rattle.text.specs.Printed.{Wrote, outcome};
+ghost use Rattle.print.specs.Printed.{Wrote, outcome};
 ghost use Rattle.picture.specs.Picture.{grey, rgb, colourOf, pixelText, pixelAt, pixmapOf, pixmapRefusal, pixmapCall};
 use glass::answer::Shown;
+use print::Written;
 use registers::Chip;
-use text::print::Written;
 
 const BLANK: u8 = 32;
 
@@ -55,9 +55,9 @@ fn colour_of(shown: Shown) -> Colour
 fn pixel(colour: Colour, out: &mut [u8], at: usize) -> usize
     ensures { λ r. ⌜ Wrote (now (out .entry)) at (pixelText colour) (now (out .exit)) r ⌝ }
 {
-    let after_red = text::print::field(colour.red as u64, BLANK, out, at);
-    let after_green = text::print::field(colour.green as u64, BLANK, out, after_red);
-    text::print::field(colour.blue as u64, NEWLINE, out, after_green)
+    let after_red = print::field(colour.red as u64, BLANK, out, at);
+    let after_green = print::field(colour.green as u64, BLANK, out, after_red);
+    print::field(colour.blue as u64, NEWLINE, out, after_green)
 }
 
 fn pixel_at(chip: Chip, memory: &[u8], k: usize, out: &mut [u8], at: usize) -> usize
@@ -71,7 +71,7 @@ fn pixel_at(chip: Chip, memory: &[u8], k: usize, out: &mut [u8], at: usize) -> u
 fn pixels(chip: Chip, memory: &[u8], out: &mut [u8]) -> usize
     ensures { λ r. ⌜ Wrote (now (out .entry)) 0 (pixmapOf chip (now (memory .entry))) (now (out .exit)) r ⌝ }
 {
-    let mut at = text::print::bytes(b"P3\n101 67\n255\n", out, 0);
+    let mut at = print::bytes(b"P3\n101 67\n255\n", out, 0);
     let mut k = 0;
     while k < 6767 {
         at = pixel_at(chip, memory, k, out, at);

@@ -1,7 +1,7 @@
 -- Searching and comparing, place by place.
 use mathlib.Core.Path.{_≡_, refl, ap, _∙_}
 use mathlib.Core.Bool.{Bool, true, false, cond, _&&_}
-use mathlib.Core.List.{List, [], _∷_}
+use mathlib.Core.List.{List, [], _∷_, _++_}
 use Prim.Native.Nat.{ℕ, suc, _+_, _≤_, _<_}
 use native.Mathlib.Numerals.{add-one}
 use native.Mathlib.Omega.{arith}
@@ -69,6 +69,16 @@ count-bound b (x ∷ xs) = go (eqb x b) (count-bound b xs)
     go : (t : Bool) → countOf b xs ≤ length xs → cond t (suc (countOf b xs)) (countOf b xs) ≤ suc (length xs)
     go true h = omega arith
     go false h = omega arith
+
+pub count-append : (b : ℕ) (xs ys : List ℕ) → countOf b (xs ++ ys) ≡ countOf b xs + countOf b ys
+count-append b [] ys = omega arith
+count-append b (x ∷ xs) ys = go (eqb x b) (count-append b xs ys)
+  where
+    go :
+        (t : Bool) → countOf b (xs ++ ys) ≡ countOf b xs + countOf b ys
+        → cond t (suc (countOf b (xs ++ ys))) (countOf b (xs ++ ys)) ≡ cond t (suc (countOf b xs)) (countOf b xs) + countOf b ys
+    go true h = omega arith
+    go false h = h
 
 -- ---- equal
 

@@ -1,10 +1,7 @@
-pub mod Digits
 pub mod Finding
 pub mod Joining
 pub mod Laws
 pub mod Numbers
 pub mod Printing
 pub mod Splitting
-pub mod Whole
-pub mod Writing
 pub mod Wrong

@@ -4,7 +4,6 @@ use Prim.Native.Nat.{ℕ}
 use native.Mathlib.Omega.{arith}
 use Rattle.text.specs.declared.Number.the-variants.{Value, Malformed}
 use Rattle.text.specs.Decimal.{numberOf}
-use Rattle.text.specs.Printed.{decimalOf}
 use Rattle.text.specs.Text.{bytes}
 
 -- four digits cut to three
@@ -26,8 +25,3 @@ zero-is-read e = let z : _≡_ {A = ℕ} 0 1 = cc in omega arith
 pub nothing-is-no-number : numberOf (bytes "") ≡ Value 0 → ⊥
 unfolding numberOf
 nothing-is-no-number e = let z : _≡_ {A = ℕ} 0 1 = cc in omega arith
-
--- a leading zero printed
-pub no-leading-zero-printed : decimalOf 5 ≡ bytes "05" → ⊥
-unfolding decimalOf
-no-leading-zero-printed e = let z : _≡_ {A = ℕ} 0 1 = cc in omega arith

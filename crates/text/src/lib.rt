@@ -1,7 +1,6 @@
-// Bytes as text: searching, fields parted by a separator, numbers. Drawing lists and captures are read with it.
+// Bytes as text, read: searching, fields parted by a separator, numbers. Drawing lists and captures are read with it.
 pub mod decimal;
 pub mod pieces;
-pub mod print;
 pub mod search;
 
 // What a field that should be a number says.

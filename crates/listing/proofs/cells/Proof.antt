@@ -4,8 +4,8 @@ use Prim.Native.Nat.{ℕ, _-_, _≤_}
 use lib.ListN.{length}
 use native.Mathlib.Omega.{arith}
 use Rattle.registers.specs.State.{places}
-use Rattle.text.specs.Printed.{top, Wrote, partsFrom}
-use Rattle.text.proofs.Writing.{wrote-next, parts-turn, parts-end}
+use Rattle.print.specs.Printed.{top, Wrote, partsFrom}
+use Rattle.print.proofs.Writing.{wrote-next, parts-turn, parts-end}
 use Rattle.listing.proofs.CodeWays.{listing-wrote}
 use Rattle.listing.proofs.Lines.{lineAt}
 use borrow.Author.Needs.{needs}

@@ -1,6 +1,6 @@
 use mathlib.Core.Path.{sym, _∙_}
 use native.Mathlib.Omega.{arith}
-use Rattle.text.proofs.Whole.{whole-refused, whole-passed, whole-short, whole-written}
+use Rattle.print.proofs.Whole.{whole-refused, whole-passed, whole-short, whole-written}
 use Rattle.listing.proofs.Lines.{listing-bound}
 use Rattle.capture.proofs.Refusals.{lengths-lent}
 use borrow.Author.Needs.{needs}

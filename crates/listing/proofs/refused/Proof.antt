@@ -1,6 +1,6 @@
 use Prim.Native.Nat.{_+_}
 use native.Mathlib.Omega.{arith}
-use Rattle.text.proofs.Whole.{whole-short, whole-written}
+use Rattle.print.proofs.Whole.{whole-short, whole-written}
 use Rattle.listing.proofs.Lines.{refused-bound}
 use borrow.Author.Needs.{needs}
 use Rattle.listing.proofs.refused.Statement.{statement}

@@ -3,8 +3,8 @@ use mathlib.Core.List.{List}
 use Prim.Native.Nat.{ℕ, _-_, _≤_}
 use lib.ListN.{length}
 use native.Mathlib.Omega.{arith}
-use Rattle.text.specs.Printed.{top, Wrote, partsFrom}
-use Rattle.text.proofs.Writing.{wrote-next, parts-turn, parts-end}
+use Rattle.print.specs.Printed.{top, Wrote, partsFrom}
+use Rattle.print.proofs.Writing.{wrote-next, parts-turn, parts-end}
 use Rattle.picture.specs.Picture.{pixelAt, pixelCount}
 use Rattle.picture.proofs.CodeWays.{pixmap-wrote}
 use borrow.Author.Needs.{needs}

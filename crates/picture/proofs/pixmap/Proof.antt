@@ -1,5 +1,5 @@
 use native.Mathlib.Omega.{arith}
-use Rattle.text.proofs.Whole.{whole-refused, whole-passed, whole-short, whole-written}
+use Rattle.print.proofs.Whole.{whole-refused, whole-passed, whole-short, whole-written}
 use Rattle.picture.proofs.Lines.{pixmap-bound}
 use borrow.Author.Needs.{needs}
 use Rattle.picture.proofs.pixmap.Statement.{statement}

@@ -6,9 +6,9 @@ use native.Mathlib.Nat.{zero-add}
 use native.Mathlib.Omega.{arith}
 use borrow.Author.Tests.{le-leb, lt-leb}
 use lib.ListN.{length}
-use Rattle.text.specs.declared.print.Written.the-variants.{Text, Short, Refused}
-use Rattle.text.specs.Printed.{top, Wrote, Outcome, outcome, wholeText}
-use Rattle.text.proofs.Writing.{after-fits}
+use Rattle.print.specs.declared.Written.the-variants.{Text, Short, Refused}
+use Rattle.print.specs.Printed.{top, Wrote, Outcome, outcome, wholeText}
+use Rattle.print.proofs.Writing.{after-fits}
 
 -- the place after a text that was written from the start on is its length
 whole-length : {l m : List ℕ} {n : ℕ} (xs : List ℕ) → length xs ≤ top → Wrote l 0 xs m n → n ≡ length xs

@@ -1,8 +1,8 @@
 use native.Mathlib.Omega.{arith}
-use Rattle.text.proofs.Writing.{sum-one, sum-more}
+use Rattle.print.proofs.Writing.{sum-one, sum-more}
 use borrow.Author.Needs.{needs}
-use Rattle.text.proofs.print.decimal_plus.Statement.{statement}
-use Rattle.text.proofs.print.decimal_plus.Tie as tie
+use Rattle.print.proofs.decimal_plus.Statement.{statement}
+use Rattle.print.proofs.decimal_plus.Tie as tie
 
 add-units : tie.Need-add-units
 add-units c = search needs

@@ -1,8 +1,8 @@
 use native.Mathlib.Omega.{arith}
-use Rattle.text.proofs.Writing.{wrote-then}
+use Rattle.print.proofs.Writing.{wrote-then}
 use borrow.Author.Needs.{needs}
-use Rattle.text.proofs.print.field.Statement.{statement}
-use Rattle.text.proofs.print.field.Tie as tie
+use Rattle.print.proofs.field.Statement.{statement}
+use Rattle.print.proofs.field.Tie as tie
 
 decimal-requires : tie.Need-decimal-requires
 decimal-requires c κs = search needs

@@ -3,7 +3,7 @@
 ghost use mathlib.Core.List.{[], _∷_, _++_};
 ghost use mathlib.Core.Path.{_≡_};
 ghost use Prim.Native.Nat.{_+_};
-ghost use Rattle.text.specs.Printed.{decimalOf, placeAfter, Wrote, writtenNumber, writtenLength};
+ghost use Rattle.print.specs.Printed.{decimalOf, placeAfter, Wrote, writtenNumber, writtenLength};
 
 // How the writing of a whole text ended: its length, the length that is needed where the output is shorter, or the number of a refusal.
 pub enum Written {

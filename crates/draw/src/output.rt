@@ -1,6 +1,6 @@
 // What is printed: a capture's lines, or why the compiler refuses the list.
 ghost use mathlib.Core.Path.{_≡_};
-ghost use Rattle.text.specs.Printed.{Wrote};
+ghost use Rattle.print.specs.Printed.{Wrote};
 ghost use Rattle.draw.specs.Lines.{eventsText};
 
 const TAB: u8 = 9;
@@ -10,16 +10,16 @@ const NEWLINE: u8 = 10;
 // `refused`, the number, and the line, which is 0 where there is none.
 pub fn refused(number: u64, line: u64) {
     let mut out = [0u8; 64];
-    let word = text::print::bytes(b"refused\t", &mut out, 0);
-    let after_number = text::print::field(number, TAB, &mut out, word);
-    let length = text::print::field(line, NEWLINE, &mut out, after_number);
+    let word = print::bytes(b"refused\t", &mut out, 0);
+    let after_number = print::field(number, TAB, &mut out, word);
+    let length = print::field(line, NEWLINE, &mut out, after_number);
     program_io::put(&out, length);
 }
 
 pub fn first_line(pins: u8) {
     let mut out = [0u8; 64];
-    let word = text::print::bytes(b"pins\t", &mut out, 0);
-    let length = text::print::field(pins as u64, NEWLINE, &mut out, word);
+    let word = print::bytes(b"pins\t", &mut out, 0);
+    let length = print::field(pins as u64, NEWLINE, &mut out, word);
     program_io::put(&out, length);
 }
 
@@ -36,7 +36,7 @@ fn lines(events: &[u16], out: &mut [u8]) -> usize
     let mut at = 0;
     let mut i = 0;
     while i < events.len() {
-        at = text::print::field(number(events[i]), NEWLINE, out, at);
+        at = print::field(number(events[i]), NEWLINE, out, at);
         i += 1;
     }
     at

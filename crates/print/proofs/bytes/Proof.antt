@@ -3,11 +3,11 @@ use mathlib.Core.List.{List}
 use Prim.Native.Nat.{ℕ, _-_, _≤_}
 use lib.ListN.{length, drop}
 use native.Mathlib.Omega.{arith}
-use Rattle.text.specs.Printed.{top, Wrote}
-use Rattle.text.proofs.Writing.{wrote-next, rest-turn, rest-none}
+use Rattle.print.specs.Printed.{top, Wrote}
+use Rattle.print.proofs.Writing.{wrote-next, rest-turn, rest-none}
 use borrow.Author.Needs.{needs}
-use Rattle.text.proofs.print.bytes.Statement.{statement}
-use Rattle.text.proofs.print.bytes.Tie as tie
+use Rattle.print.proofs.bytes.Statement.{statement}
+use Rattle.print.proofs.bytes.Tie as tie
 
 abbrev Inv-loop : tie.InvT-loop
 Inv-loop s out₀ at next₀ i₀ out next i =

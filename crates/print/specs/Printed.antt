@@ -6,9 +6,9 @@ use Prim.Native.Nat.{ℕ, zero, suc, _+_, _*_, _/_, _%_, _-_, _^_}
 use lib.Dec.{leb, ltb}
 use lib.ListN.{length}
 use lib.Seq.{sets}
-use Rattle.text.specs.declared.print.Written.{Written}
-use Rattle.text.specs.declared.print.Written.the-variants.{Text, Short, Refused}
 use Rattle.text.specs.Decimal.{isDigit, isLeading, digitValue, digit}
+use Rattle.print.specs.declared.Written.{Written}
+use Rattle.print.specs.declared.Written.the-variants.{Text, Short, Refused}
 
 -- ---- the digits of a number
 

@@ -8,11 +8,11 @@ use native.Mathlib.Omega.{arith}
 use borrow.Author.Tests.{lt-ltb, le-ltb, ne-eqb}
 use lib.Dec.{eqb}
 use lib.ListN.{length, length-append}
 use Rattle.text.specs.Text.{countOf}
 use Rattle.text.specs.Decimal.{isDigit, isLeading, digitValue, digit, decimal}
-use Rattle.text.specs.Printed.{digitsUpTo, decimalOf, allDigits, valueAfter, noLeadingZero, IsDecimalOf}
 use Rattle.text.proofs.Numbers.{and-both, digit-bounds, leading-bounds, bounds-leading}
 use Rattle.text.proofs.Printing.{is-digit}
+use Rattle.print.specs.Printed.{digitsUpTo, decimalOf, allDigits, valueAfter, noLeadingZero, IsDecimalOf}
 
 -- ---- one digit, or one more than n / 10 has
 
@@ -137,16 +137,6 @@ decimal-bound (suc k) n h = go (decLt n 10) (decimal-bound k (n / 10))
         rw (decimal-more n (omega arith)) (omega (arith, length-append (decimalOf (n / 10)) (digit (n % 10) ∷ [])))
 
 -- ---- a byte that is no digit is not among them, so that it can part numbers
-
-pub count-append : (b : ℕ) (xs ys : List ℕ) → countOf b (xs ++ ys) ≡ countOf b xs + countOf b ys
-count-append b [] ys = omega arith
-count-append b (x ∷ xs) ys = go (eqb x b) (count-append b xs ys)
-  where
-    go :
-        (t : Bool) → countOf b (xs ++ ys) ≡ countOf b xs + countOf b ys
-        → cond t (suc (countOf b (xs ++ ys))) (countOf b (xs ++ ys)) ≡ cond t (suc (countOf b xs)) (countOf b xs) + countOf b ys
-    go true h = omega arith
-    go false h = h
 
 digits-free : (b : ℕ) (ds : List ℕ) → b < 48 → allDigits ds ≡ true → countOf b ds ≡ 0
 digits-free b [] l h = refl

@@ -1,8 +1,8 @@
-use Rattle.text.proofs.Writing.{stored-byte, unstored-byte}
+use Rattle.print.proofs.Writing.{stored-byte, unstored-byte}
 use native.Mathlib.Omega.{arith}
 use borrow.Author.Needs.{needs}
-use Rattle.text.proofs.print.byte.Statement.{statement}
-use Rattle.text.proofs.print.byte.Tie as tie
+use Rattle.print.proofs.byte.Statement.{statement}
+use Rattle.print.proofs.byte.Tie as tie
 
 slice-write-out : tie.Need-slice-write-out
 slice-write-out c = search needs

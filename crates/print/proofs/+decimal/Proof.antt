@@ -1,15 +1,15 @@
-use Rattle.text.proofs.Writing.{number-one, number-more}
+use Rattle.print.proofs.Writing.{number-one, number-more}
 use native.Mathlib.Omega.{arith}
 use borrow.Author.Needs.{needs}
 use Prim.Native.Nat.{ℕ, _<_}
 use borrow.Fn.Kinds.{In}
 use borrow.Fn.PlainCycle.{Measures, is, falls, and}
-use Rattle.text.proofs.print.decimal.Reads as decimal
-use Rattle.text.proofs.print.decimal.Kinds as decimal-kinds
-use Rattle.text.proofs.print.+decimal.Lts-decimal as decimal-lts
-use Rattle.text.proofs.print.byte.Reads as byte-reads
-use Rattle.text.proofs.print.+decimal.{statement}
-use Rattle.text.proofs.print.+decimal.Tie.{close}
+use Rattle.print.proofs.decimal.Reads as decimal
+use Rattle.print.proofs.decimal.Kinds as decimal-kinds
+use Rattle.print.proofs.+decimal.Lts-decimal as decimal-lts
+use Rattle.print.proofs.byte.Reads as byte-reads
+use Rattle.print.proofs.+decimal.{statement}
+use Rattle.print.proofs.+decimal.Tie.{close}
 
 abbrev μ-decimal : Measures 1 decimal-kinds.ps ℕ
 μ-decimal κs a = a .0

@@ -9,11 +9,11 @@ use borrow.Author.Tests.{le-leb, leb-true, leb-false}
 use lib.Dec.{leb}
 use lib.ListN.{length, getD, take, drop, set, length-append, length-set, drop-of-length-le}
 use lib.Seq.{sets, set-out, length-sets, sets-eq, take-at, length-take-le}
 use Rattle.text.specs.Text.{countOf}
 use Rattle.text.specs.Decimal.{digit}
-use Rattle.text.specs.Printed.{decimalOf, top, placeAfter, Wrote, partsFrom}
-use Rattle.text.proofs.Digits.{decimal-one, decimal-more, count-append}
-use Rattle.text.proofs.Finding.{drop-next}
+use Rattle.text.proofs.Finding.{count-append, drop-next}
+use Rattle.print.specs.Printed.{decimalOf, top, placeAfter, Wrote, partsFrom}
+use Rattle.print.proofs.Digits.{decimal-one, decimal-more}
 
 -- ---- the place after n bytes
 

@@ -1,10 +1,10 @@
-use Rattle.text.proofs.Writing.{after-fits, after-top}
-use Rattle.text.specs.Printed.{top}
+use Rattle.print.proofs.Writing.{after-fits, after-top}
+use Rattle.print.specs.Printed.{top}
 use mathlib.Core.Path.{_≡_, sym, _∙_}
 use native.Mathlib.Omega.{arith}
 use borrow.Author.Needs.{needs}
-use Rattle.text.proofs.print.after.Statement.{statement}
-use Rattle.text.proofs.print.after.Tie as tie
+use Rattle.print.proofs.after.Statement.{statement}
+use Rattle.print.proofs.after.Tie as tie
 
 add-result : tie.Need-add-result
 add-result c = search needs

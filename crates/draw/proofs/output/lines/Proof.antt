@@ -4,13 +4,13 @@ use Prim.Native.Nat.{ℕ, _-_, _≤_}
 use denote.Ref.{now}
 use lib.ListN.{length}
 use native.Mathlib.Omega.{arith}
-use Rattle.text.specs.Printed.{top, Wrote, partsFrom}
-use Rattle.text.proofs.Writing.{wrote-next}
+use Rattle.print.specs.Printed.{top, Wrote, partsFrom}
+use Rattle.print.proofs.Writing.{wrote-next}
 use Rattle.draw.specs.Lines.{eventLine, eventsText}
 use Rattle.draw.proofs.CodeWays.{all-left, event-turn, none-left}
 use borrow.Author.Needs.{needs}
-use Rattle.draw.proofs.print.lines.Statement.{statement}
-use Rattle.draw.proofs.print.lines.Tie as tie
+use Rattle.draw.proofs.output.lines.Statement.{statement}
+use Rattle.draw.proofs.output.lines.Tie as tie
 
 abbrev Inv-loop : tie.InvT-loop
 Inv-loop events out₀ at₀ i₀ out at i =

@@ -1,0 +1,74 @@
+-- What is promised of numbers as they are printed, and of a whole text that has no room.
+use mathlib.Core.Bool.{Bool, true, false, cond}
+use mathlib.Core.List.{List}
+use mathlib.Core.Logic.{_↔_}
+use mathlib.Core.Path.{_≡_, refl, sym, ap, _∙_}
+use Prim.Native.Nat.{ℕ, zero, suc, _≤_, _<_}
+use native.Mathlib.Nat.{zero-add}
+use native.Mathlib.Omega.{arith}
+use borrow.Author.Tests.{leb-true, leb-false}
+use lib.Dec.{leb}
+use lib.ListN.{length, take}
+use lib.Seq.{sets}
+use Rattle.text.proofs.Laws.{IsNumber}
+use Rattle.print.specs.declared.Written.{Written}
+use Rattle.print.specs.declared.Written.the-variants.{Text, Short, Refused}
+use Rattle.print.specs.Printed.{IsDecimalOf, decimalOf, writtenNumber, writtenLength, Outcome, outcome, wholeText}
+use Rattle.print.proofs.Digits.{decimal-denotes, denotes-decimal, decimal-short}
+use Rattle.print.proofs.Writing.{wrote-read}
+
+-- digits denote a number, of any size, exactly where they are how it is printed
+pub printed-exactly : (ds : List ℕ) (n : ℕ) → IsDecimalOf ds n ↔ (ds ≡ decimalOf n)
+printed-exactly ds n = (denotes-decimal ds n, λ e. rw e (decimal-denotes n))
+
+-- bytes are read as a number exactly where they denote it and it is below 1,000
+pub number-exactly : (s : List ℕ) (n : ℕ) → IsNumber s n ↔ ((n < 1000) × IsDecimalOf s n)
+number-exactly s n = (
+  λ h. (h .0, printed-exactly s n .1 (h .1 ∙ sym (decimal-short n (h .0)))),
+  λ h. (h .0, printed-exactly s n .0 (h .1) ∙ decimal-short n (h .0)),
+)
+
+-- ---- a whole text
+
+-- where the output is too short, and only there, the answer has the number that its kind of text gives for that, with the length that is needed
+pub short-exactly :
+    (short : ℕ) → (short ≡ 0 → ⊥) → (xs l : List ℕ)
+    → ((writtenNumber short (wholeText 0 xs l .answer) ≡ short) ↔ (length l < length xs)) × (writtenLength (wholeText 0 xs l .answer) ≡ length xs)
+unfolding wholeText
+short-exactly short some xs l = go (leb (length xs) (length l)) refl
+  where
+    go :
+        (t : Bool) → leb (length xs) (length l) ≡ t
+        → (let a : Written = cond t (outcome (Text (length xs)) (sets l 0 xs)) (outcome (Short (length xs)) l) .answer in
+        ((writtenNumber short a ≡ short) ↔ (length l < length xs)) × (writtenLength a ≡ length xs))
+    go true e = ((λ z. absurd (some (sym z)), λ h. absurd (omega (arith, leb-true (length xs) (length l) e))), refl)
+    go false e = ((λ z. leb-false (length xs) (length l) e, λ h. refl), refl)
+
+-- what the answer tells of the buffer: it begins with the text
+module _ (xs l : List ℕ) where
+  from-start : length xs ≤ length l → take (length xs) (sets l 0 xs) ≡ xs
+  from-start h =
+      ap (λ (k : ℕ). take k (sets l 0 xs)) (sym (zero-add (length xs)))
+      ∙ wrote-read {l = l} {i = 0} {xs = xs} (omega arith) (record { list = refl; next = refl })
+
+  pub text-read : (k n : ℕ) {m : List ℕ} → outcome (Text n) m ≡ wholeText k xs l → (k ≡ 0) × (take n m ≡ xs)
+  unfolding wholeText
+  text-read zero n {m} e = go (leb (length xs) (length l)) refl e
+    where
+      go :
+          (t : Bool) → leb (length xs) (length l) ≡ t
+          → outcome (Text n) m ≡ cond t (outcome (Text (length xs)) (sets l 0 xs)) (outcome (Short (length xs)) l)
+          → (zero ≡ 0) × (take n m ≡ xs)
+      go true room told =
+          let same : Text n ≡ Text (length xs) = ap (λ (o : Outcome). o .answer) told in
+          let size : n ≡ length xs = cc in
+          let stored : m ≡ sets l 0 xs = ap (λ (o : Outcome). o .out) told in
+          (refl, rw (size, stored) (from-start (leb-true (length xs) (length l) room)))
+      go false room told =
+          let same : Text n ≡ Short (length xs) = ap (λ (o : Outcome). o .answer) told in
+          let z : _≡_ {A = ℕ} 0 1 = cc in
+          absurd (omega arith)
+  text-read (suc k) n e =
+      let same : Text n ≡ Refused (suc k) = ap (λ (o : Outcome). o .answer) e in
+      let z : _≡_ {A = ℕ} 0 1 = cc in
+      absurd (omega arith)

@@ -1,0 +1,5 @@
+pub mod Digits
+pub mod Laws
+pub mod Whole
+pub mod Writing
+pub mod Wrong
