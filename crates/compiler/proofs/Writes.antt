@@ -9,7 +9,7 @@ use lib.ListN.{length, replicate, length-append, length-replicate}
 use lib.Seq.{sets}
 use Rattle.registers.specs.declared.Registers.{Registers}
 use Rattle.registers.specs.Reversed.{ordered}
-use Rattle.text.proofs.Writing.{sets-append}
+use Rattle.print.proofs.Writing.{sets-append}
 use Rattle.compiler.specs.Stream.{run, across, down}
 use Rattle.compiler.specs.Writes.{Wrote, runEvents, runsFrom}
 
