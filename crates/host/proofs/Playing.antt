@@ -44,7 +44,7 @@ NoRefusal Acknowledged = Unit
 NoRefusal NotAcknowledged = Unit
 NoRefusal (Read b) = Unit
 
-pub record Sound (a : After) : Type 0 where
+record Sound (a : After) : Type 0 where
   pub answered : NoRefusal (a .answer)
   pub status-byte : a .state .chip .status ≤ 255
 
@@ -127,14 +127,14 @@ step-sound e s r h =
     (applied-sound (eventOf e) (s .chip .count + 1) (state (counted (s .chip)) (s .memory) (s .writers)) (sensor-byte e) h)
 
 -- the numbers of such answers
-pub no-refusal-number : (a : Answer) → NoRefusal a → 256 ≤ numberOf a
+no-refusal-number : (a : Answer) → NoRefusal a → 256 ≤ numberOf a
 no-refusal-number (Refused k) n = absurd n
 no-refusal-number Nothing n = omega arith
 no-refusal-number Acknowledged n = omega arith
 no-refusal-number NotAcknowledged n = omega arith
 no-refusal-number (Read b) n = omega arith
 
-pub acknowledged-number : (a : Answer) → isAcknowledged a ≡ true → numberOf a ≡ 257
+acknowledged-number : (a : Answer) → isAcknowledged a ≡ true → numberOf a ≡ 257
 unfolding isAcknowledged
 acknowledged-number (Refused k) h = let z : _≡_ {A = Bool} false true = h in cc
 acknowledged-number Nothing h = let z : _≡_ {A = Bool} false true = h in cc
@@ -142,7 +142,7 @@ acknowledged-number Acknowledged h = refl
 acknowledged-number NotAcknowledged h = let z : _≡_ {A = Bool} false true = h in cc
 acknowledged-number (Read b) h = let z : _≡_ {A = Bool} false true = h in cc
 
-pub number-acknowledged : (a : Answer) → NoRefusal a → numberOf a ≡ 257 → isAcknowledged a ≡ true
+number-acknowledged : (a : Answer) → NoRefusal a → numberOf a ≡ 257 → isAcknowledged a ≡ true
 unfolding isAcknowledged
 number-acknowledged (Refused k) n h = absurd n
 number-acknowledged Nothing n h = absurd (omega arith)
@@ -160,7 +160,7 @@ abbrev pub Stands : State → Type 0
 Stands s = standsFor (wordsOf (s .chip)) ≡ true
 
 module _ (s : State) (h : Stands s) where
-  pub stands-status : s .chip .status ≤ 255
+  stands-status : s .chip .status ≤ 255
   unfolding wordsOf
   stands-status = stands-at (wordsOf (s .chip)) h STATUS
 
@@ -168,14 +168,14 @@ module _ (s : State) (h : Stands s) where
   unfolding wordsOf
   stands-count = stands-at (wordsOf (s .chip)) h COUNT
 
-  pub call-steps : (e : ℕ) → stepOn e (buffersOf s) ≡ afterStep (stepOf e s)
+  call-steps : (e : ℕ) → stepOn e (buffersOf s) ≡ afterStep (stepOf e s)
   unfolding stepCall
   call-steps e = rw (h, chip-words-chip (s .chip))
 
-  pub step-answers : (e : ℕ) → refusalOf e s ≡ 0 → Sound (stepOf e s)
+  step-answers : (e : ℕ) → refusalOf e s ≡ 0 → Sound (stepOf e s)
   step-answers e r = step-sound e s r stands-status
 
-  pub stays-standing : (e : ℕ) → refusalOf e s ≡ 0 → Stands (stepOf e s .state)
+  stays-standing : (e : ℕ) → refusalOf e s ≡ 0 → Stands (stepOf e s .state)
   stays-standing e r =
       let taken = accepts e s r in
       let counted : stepOf e s .state .chip .count ≤ 2 ^ 64 - 1 = omega (arith, count-law e s r, stands-count, taken .room) in
@@ -183,10 +183,10 @@ module _ (s : State) (h : Stands s) where
 
 -- ---- events one by one, the first n of which are not refused
 
-abbrev pub Accepted : List ℕ → ℕ → State → Type 0
+abbrev Accepted : List ℕ → ℕ → State → Type 0
 Accepted es n s = (i : ℕ) → i < n → refusalOf (getD es i 0) (before es i s) ≡ 0
 
-pub upon-event :
+upon-event :
     (es : List ℕ) (n i : ℕ) (s : State) → Stands s → Accepted es n s → i ≤ n → i ≤ length es
     → (uponEvent es i (buffersOf s) ≡ buffersOf (before es i s)) × Stands (before es i s)
 upon-event [] n i s h all l m = (refl, h)
@@ -197,7 +197,7 @@ upon-event (e ∷ es) (suc n) (suc i) s h all l m =
     (rw (call-steps s h e) (on .0), on .1)
 upon-event (e ∷ es) zero (suc i) s h all l m = absurd (omega arith)
 
-pub after-events : (es : List ℕ) (s : State) → Stands s → Accepted es (length es) s → afterEvents es (buffersOf s) ≡ buffersOf (played es s)
+after-events : (es : List ℕ) (s : State) → Stands s → Accepted es (length es) s → afterEvents es (buffersOf s) ≡ buffersOf (played es s)
 after-events [] s h all = refl
 after-events (e ∷ es) s h all =
     let r : refusalOf e s ≡ 0 = all 0 (omega arith) in
@@ -210,7 +210,7 @@ as-buffers ws m w h = ap (λ (l : List ℕ). buffers l m w) (sym (words-chip-wor
 pub as-stands : (ws m w : List ℕ) → standsFor ws ≡ true → Stands (state (chipOf ws) m w)
 as-stands ws m w h = rw (words-chip-words ws h) h
 
-pub call-runs : (es : List ℕ) (s : State) → Stands s → runOn es (buffersOf s) ≡ afterRun (runOf es s)
+call-runs : (es : List ℕ) (s : State) → Stands s → runOn es (buffersOf s) ≡ afterRun (runOf es s)
 unfolding runCall
 call-runs es s h = rw (h, chip-words-chip (s .chip))
 
@@ -269,7 +269,7 @@ module _ (e : ℕ) (s : State) (k : ℕ) (h : Stands s) where
   of-call : stepOn e (buffersOf s) .number ≡ numberOf (stepOf e s .answer)
   of-call = ap (λ (r : Stepped). r .number) (call-steps s h e)
 
-  pub chip-stored : refusalOf e s ≡ 0 → StoredByCall e (buffersOf s) k → chip.StoredAt e s k
+  chip-stored : refusalOf e s ≡ 0 → StoredByCall e (buffersOf s) k → chip.StoredAt e s k
   unfolding wordsOf
   chip-stored r st =
       record {
@@ -279,7 +279,7 @@ module _ (e : ℕ) (s : State) (k : ℕ) (h : Stands s) where
         at-place = st .at-place;
       }
 
-  pub call-stored : chip.StoredAt e s k → StoredByCall e (buffersOf s) k
+  call-stored : chip.StoredAt e s k → StoredByCall e (buffersOf s) k
   unfolding wordsOf
   call-stored st =
       record {
