@@ -85,10 +85,10 @@ course p (q ∷ ps) f n s fit = go (numberOf p) refl (λ k t h. course q ps (f .
         → (refusalOf e s ≡ 0 → Course (n + 1) (stepOf e s .state) (join newline (q ∷ ps)) (playFrom (n + 1) (eventsOf (q ∷ ps)) (stepOf e s .state)))
         → Course n s (p ++ newline ∷ join newline (q ∷ ps)) (playFrom n (withEvent (Value e) (eventsOf (q ∷ ps))) s)
     event e is zero h rest =
-        rw (is .spelt, played-next e n s (is .small) h (eventsOf (q ∷ ps))) (event-before e n s (is .small) h _ _ (rest h))
+        rw (is .in-decimal, played-next e n s (is .small) h (eventsOf (q ∷ ps))) (event-before e n s (is .small) h _ _ (rest h))
     event e is (suc k) h rest =
         stops-here n s _ _ fit
-        (refused-event e (join newline (q ∷ ps)) (is .small) (λ z. let no : suc k ≡ 0 = sym h ∙ z in omega arith) (rw (is .spelt)))
+        (refused-event e (join newline (q ∷ ps)) (is .small) (λ z. let no : suc k ≡ 0 = sym h ∙ z in omega arith) (rw (is .in-decimal)))
         (rw (run-stopped e (eventsOf (q ∷ ps) .events) s k h, add-zero))
 
     go :

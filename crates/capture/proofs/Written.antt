@@ -53,7 +53,7 @@ first-written p k e = go (sameBytes (take 5 p) word) refl e
     go : (t : Bool) → sameBytes (take 5 p) word ≡ t → cond t (asPins (numberOf (drop 5 p))) Malformed ≡ Value k → (p ≡ firstLine k) × (k ≤ 3)
     go true same e =
         let number = as-pins (numberOf (drop 5 p)) k e in
-        (sym (take-append-drop 5 p) ∙ rw (same-equal (take 5 p) word same, printed (drop 5 p) k (number .0) .spelt), number .1)
+        (sym (take-append-drop 5 p) ∙ rw (same-equal (take 5 p) word same, printed (drop 5 p) k (number .0) .in-decimal), number .1)
     go false same e = absurd (let z : _≡_ {A = ℕ} 0 1 = cc e in omega arith)
 
 -- ---- event lines

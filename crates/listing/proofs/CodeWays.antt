@@ -8,7 +8,7 @@ use Rattle.registers.specs.Refusals.{lengthsRefusal}
 use Rattle.registers.specs.State.{places}
 use Rattle.text.specs.Text.{bytes}
 use Rattle.print.specs.declared.Written.the-variants.{Refused}
-use Rattle.print.specs.Printed.{decimalOf, top, Wrote, partsFrom, Outcome, outcome}
+use Rattle.print.specs.Printed.{decimalOf, top, Wrote, partsFrom, Output, output}
 use Rattle.print.proofs.Writing.{wrote-then, wrote-same, wrote-none}
 use Rattle.capture.specs.declared.End.{End}
 use Rattle.capture.specs.Feeding.{meaning}
@@ -71,13 +71,13 @@ refused-wrote n tl tm a b c = wrote-then tl a (wrote-then tm b c)
 
 -- ---- what is printed of a capture: x is what the code found, k what the definition says
 
-pub text-refused : (x k : ℕ) (out : List ℕ) (text : Outcome) → x ≡ k → (x ≡ 0 → ⊥) → outcome (Refused x) out ≡ textUnless k out text
+pub text-refused : (x k : ℕ) (out : List ℕ) (text : Output) → x ≡ k → (x ≡ 0 → ⊥) → output (Refused x) out ≡ textUnless k out text
 text-refused zero k out text e n = absurd (n refl)
 text-refused (suc x) k out text e n = rw (← e)
 
 -- an end of a known kind, where 1 lets the memories pass
 pub text-known :
-    (known end : End) (m w out : List ℕ) (x : ℕ) (o : Outcome) → end ≡ known → x ≡ lengthsRefusal (length m) (length w) → x ≡ 0
+    (known end : End) (m w out : List ℕ) (x : ℕ) (o : Output) → end ≡ known → x ≡ lengthsRefusal (length m) (length w) → x ≡ 0
     → o ≡ textOfReplay (meaning known m w) out → o ≡ replayTextCall end m w out
 unfolding replayTextCall
 text-known known end m w out x o e ex z h = let none : lengthsRefusal (length m) (length w) ≡ 0 = sym ex ∙ z in rw (none, e) h

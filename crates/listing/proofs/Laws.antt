@@ -12,7 +12,7 @@ use Rattle.registers.specs.Refusals.{lengthsRefusal}
 use Rattle.registers.specs.State.{State, state, places}
 use Rattle.text.specs.Text.{bytes}
 use Rattle.print.specs.declared.Written.the-variants.{Text, Short, Refused}
-use Rattle.print.specs.Printed.{decimalOf, outcome, wholeText}
+use Rattle.print.specs.Printed.{decimalOf, output, wholeText}
 use Rattle.chip.specs.Promised.{Fit}
 use Rattle.capture.specs.declared.End.{End}
 use Rattle.capture.specs.declared.End.the-variants as ends
@@ -78,7 +78,7 @@ module _ (memory writers : List ℕ) where
         where
           go :
               (t : Bool)
-              → cond t (outcome (Text (length (listingOf memory writers))) (sets out 0 (listingOf memory writers))) (outcome (Short (length (listingOf memory writers))) out)
+              → cond t (output (Text (length (listingOf memory writers))) (sets out 0 (listingOf memory writers))) (output (Short (length (listingOf memory writers))) out)
               .answer
               ≡ Refused k → ⊥
           go true h = let z : _≡_ {A = ℕ} 0 1 = cc h in omega arith

@@ -8,7 +8,7 @@ use Rattle.registers.specs.Refusals.{lengthsRefusal}
 use Rattle.registers.specs.State.{places}
 use Rattle.text.specs.Text.{bytes, join}
 use Rattle.print.specs.declared.Written.{Written}
-use Rattle.print.specs.Printed.{decimalOf, Outcome, wholeText, writtenNumber}
+use Rattle.print.specs.Printed.{decimalOf, Output, wholeText, writtenNumber}
 
 -- ---- the cells
 
@@ -65,8 +65,8 @@ abbrev pub listingNumber : Written → ℕ
 listingNumber = writtenNumber 10
 
 -- 1: a lent memory isn't 1,717 long
-abbrev pub listingCall : List ℕ → List ℕ → List ℕ → Outcome
+abbrev pub listingCall : List ℕ → List ℕ → List ℕ → Output
 listingCall memory writers out = wholeText (lengthsRefusal (length memory) (length writers)) (listingOf memory writers) out
 
-abbrev pub refusedCall : ℕ → List ℕ → Outcome
+abbrev pub refusedCall : ℕ → List ℕ → Output
 refusedCall n out = wholeText 0 (refusedOf n) out

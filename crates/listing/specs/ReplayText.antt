@@ -4,22 +4,22 @@ use Prim.Native.Nat.{ℕ, zero, suc}
 use lib.ListN.{length}
 use Rattle.registers.specs.Refusals.{lengthsRefusal}
 use Rattle.print.specs.declared.Written.the-variants.{Refused}
-use Rattle.print.specs.Printed.{Outcome, outcome}
+use Rattle.print.specs.Printed.{Output, output}
 use Rattle.capture.specs.declared.End.{End}
 use Rattle.capture.specs.Feeding.{meaning}
 use Rattle.capture.specs.Replay.{Replay, refusedBy, refusedAt, replayed}
 use Rattle.listing.specs.Listing.{listingCall, refusedCall}
 
 -- the answer, and the buffer
-abbrev pub textOfReplay : Replay → List ℕ → Outcome
-textOfReplay (refusedBy k) out = outcome (Refused k) out
+abbrev pub textOfReplay : Replay → List ℕ → Output
+textOfReplay (refusedBy k) out = output (Refused k) out
 textOfReplay (refusedAt n s) out = refusedCall n out
 textOfReplay (replayed s) out = listingCall (s .memory) (s .writers) out
 
-abbrev pub textUnless : ℕ → List ℕ → Outcome → Outcome
+abbrev pub textUnless : ℕ → List ℕ → Output → Output
 textUnless zero out text = text
-textUnless (suc k) out text = outcome (Refused (suc k)) out
+textUnless (suc k) out text = output (Refused (suc k)) out
 
 -- 1: a lent memory isn't 1,717 long, whatever the capture came to
-unfoldable pub replayTextCall : End → List ℕ → List ℕ → List ℕ → Outcome
+unfoldable pub replayTextCall : End → List ℕ → List ℕ → List ℕ → Output
 replayTextCall end m w out = textUnless (lengthsRefusal (length m) (length w)) out (textOfReplay (meaning end m w) out)

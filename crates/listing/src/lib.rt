@@ -3,7 +3,7 @@ ghost use mathlib.Core.Path.{_≡_};
 ghost use Prim.Native.Nat.{_+_, _<_};
 ghost use lib.ListN.{length};
 ghost use Rattle.registers.specs.State.{places};
-ghost use Rattle.print.specs.Printed.{Wrote, outcome};
+ghost use Rattle.print.specs.Printed.{Wrote, output};
 ghost use Rattle.listing.specs.Listing.{cell, cellsAt, cellText, cellsText, listingOf, refusedOf, listingCall, refusedCall};
 ghost use Rattle.listing.specs.ReplayText.{replayTextCall};
 use capture::End;
@@ -58,7 +58,7 @@ fn cells(memory: &[u8], writers: &[u64], out: &mut [u8]) -> usize
 
 // The listing of these memories, from the start of `out` on.
 pub fn listing(memory: &[u8], writers: &[u64], out: &mut [u8]) -> Written
-    ensures { λ r. ⌜ outcome r (now (out .exit)) ≡ listingCall (now (memory .entry)) (now (writers .entry)) (now (out .entry)) ⌝ }
+    ensures { λ r. ⌜ output r (now (out .exit)) ≡ listingCall (now (memory .entry)) (now (writers .entry)) (now (out .entry)) ⌝ }
 {
     let refused = registers::refusal::of_lengths(memory.len(), writers.len());
     if refused != 0 {
@@ -82,7 +82,7 @@ fn refused_line(n: u64, k: u8, out: &mut [u8]) -> usize
 
 // The line of a capture that is bad at line n + k, which may be past the largest u64: a capture's event n, from 0, stands in line n + 2.
 pub fn refused(n: u64, k: u8, out: &mut [u8]) -> Written
-    ensures { λ r. ⌜ outcome r (now (out .exit)) ≡ refusedCall (n + k) (now (out .entry)) ⌝ }
+    ensures { λ r. ⌜ output r (now (out .exit)) ≡ refusedCall (n + k) (now (out .entry)) ⌝ }
 {
     let mut none = [0u8; 0];
     let needed = refused_line(n, k, &mut none);
@@ -94,7 +94,7 @@ pub fn refused(n: u64, k: u8, out: &mut [u8]) -> Written
 
 // What is printed of a capture that came to `end` and left these memories: the listing, or the line where it is bad, from the start of `out` on.
 pub fn replay_text(end: End, memory: &[u8], writers: &[u64], out: &mut [u8]) -> Written
-    ensures { λ r. ⌜ outcome r (now (out .exit)) ≡ replayTextCall end (now (memory .entry)) (now (writers .entry)) (now (out .entry)) ⌝ }
+    ensures { λ r. ⌜ output r (now (out .exit)) ≡ replayTextCall end (now (memory .entry)) (now (writers .entry)) (now (out .entry)) ⌝ }
 {
     let wrong = registers::refusal::of_lengths(memory.len(), writers.len());
     if wrong != 0 {

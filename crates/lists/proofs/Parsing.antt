@@ -128,7 +128,7 @@ module _ (p : List ℕ) where
       (record {
         syntax = put c b n;
         well-formed = (printed _ c ec .small, printed _ b eb .small, printed _ n en .small);
-        printed = put-back p 4 e ∙ rw (w, printed _ c ec .spelt, printed _ b eb .spelt, printed _ n en .spelt);
+        printed = put-back p 4 e ∙ rw (w, printed _ c ec .in-decimal, printed _ b eb .in-decimal, printed _ n en .in-decimal);
       })
 
   fill-numbers :
@@ -147,7 +147,7 @@ module _ (p : List ℕ) where
         well-formed = (printed _ c0 e0 .small, printed _ c1 e1 .small, printed _ b0 e2 .small, printed _ b1 e3 .small, printed _ n e4 .small);
         printed =
             put-back p 6 e
-            ∙ rw (w, printed _ c0 e0 .spelt, printed _ c1 e1 .spelt, printed _ b0 e2 .spelt, printed _ b1 e3 .spelt, printed _ n e4 .spelt);
+            ∙ rw (w, printed _ c0 e0 .in-decimal, printed _ c1 e1 .in-decimal, printed _ b0 e2 .in-decimal, printed _ b1 e3 .in-decimal, printed _ n e4 .in-decimal);
       })
 
   -- the place of the register that the line names
@@ -166,7 +166,7 @@ module _ (p : List ℕ) where
       (record {
         syntax = set named n;
         well-formed = (field, printed _ n en .small);
-        printed = put-back p 3 e ∙ rw (w, index-found (pieceAt ps 1) names (field .place), printed _ n en .spelt);
+        printed = put-back p 3 e ∙ rw (w, index-found (pieceAt ps 1) names (field .place), printed _ n en .in-decimal);
       })
 
   -- the number of pieces that a word asks for

@@ -9,7 +9,7 @@ use Rattle.glass.specs.declared.answer.Shown.the-variants as shown
 use Rattle.glass.specs.Glass.{glassOf}
 use Rattle.text.specs.Text.{bytes, join}
 use Rattle.print.specs.declared.Written.{Written}
-use Rattle.print.specs.Printed.{decimalOf, partsFrom, Outcome, wholeText, writtenNumber}
+use Rattle.print.specs.Printed.{decimalOf, partsFrom, Output, wholeText, writtenNumber}
 use Rattle.picture.specs.declared.Colour.{Colour}
 
 -- ---- colours
@@ -58,5 +58,5 @@ abbrev pub pixmapNumber : Written → ℕ
 pixmapNumber = writtenNumber 10
 
 -- the answer, and the buffer
-abbrev pub pixmapCall : Chip → List ℕ → List ℕ → Outcome
+abbrev pub pixmapCall : Chip → List ℕ → List ℕ → Output
 pixmapCall c memory out = wholeText (pixmapRefusal c (length memory)) (pixmapOf c memory) out

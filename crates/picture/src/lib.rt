@@ -1,6 +1,6 @@
 // The glass as a portable pixmap, for any viewer of pictures.
 ghost use mathlib.Core.Path.{_≡_};
-ghost use Rattle.print.specs.Printed.{Wrote, outcome};
+ghost use Rattle.print.specs.Printed.{Wrote, output};
 ghost use Rattle.picture.specs.Picture.{grey, rgb, colourOf, pixelText, pixelAt, pixmapOf, pixmapRefusal, pixmapCall};
 use glass::answer::Shown;
 use print::Written;
@@ -93,7 +93,7 @@ fn refusal(chip: Chip, memory_len: usize) -> u8
 
 // The picture of what this chip shows of this memory, from the start of `out` on.
 pub fn pixmap(chip: Chip, memory: &[u8], out: &mut [u8]) -> Written
-    ensures { λ r. ⌜ outcome r (now (out .exit)) ≡ pixmapCall chip (now (memory .entry)) (now (out .entry)) ⌝ }
+    ensures { λ r. ⌜ output r (now (out .exit)) ≡ pixmapCall chip (now (memory .entry)) (now (out .entry)) ⌝ }
 {
     let refused = refusal(chip, memory.len());
     if refused != 0 {

@@ -1,12 +1,11 @@
--- The digits of a number: one by one, that they spell it and nothing else does, how many there are, and that the short numbers of lists are printed so too.
+-- The digits of a number: one by one, that they denote it and no others do, how many there are, and that the short numbers of lists are printed so too.
 use mathlib.Core.Path.{_≡_, refl, sym, ap, _∙_}
-use mathlib.Core.Bool.{Bool, true, false, cond}
+use mathlib.Core.Bool.{true}
 use mathlib.Core.List.{List, [], _∷_, _++_, append-assoc, append-nil}
 use Prim.Native.Nat.{ℕ, zero, suc, _+_, _*_, _/_, _%_, _^_, _≤_, _<_}
 use native.Mathlib.Decide.{decLt}
 use native.Mathlib.Omega.{arith}
 use borrow.Author.Tests.{lt-ltb, le-ltb, ne-eqb}
-use lib.Dec.{eqb}
 use lib.ListN.{length, length-append}
 use Rattle.text.specs.Text.{countOf}
 use Rattle.text.specs.Decimal.{isDigit, isLeading, digitValue, digit, decimal}
@@ -55,7 +54,7 @@ by-tens P one more n = go (suc n) n (omega arith)
         pick (yes l) rest = one n l
         pick (no m) rest = more n (omega arith) (rest (omega arith))
 
--- ---- they spell the number
+-- ---- they denote the number
 
 all-append : (xs ys : List ℕ) → allDigits xs ≡ true → allDigits ys ≡ true → allDigits (xs ++ ys) ≡ true
 all-append [] ys hx hy = hy
@@ -95,18 +94,18 @@ decimal-denotes =
       value = value-append 0 (decimalOf (n / 10)) (digit (n % 10) ∷ []) ∙ rw (rest .value) (omega arith);
     }))
 
--- ---- and nothing else does
+-- ---- and no others do
 
 -- digits written after a number above 0
-spelt-after : (m : ℕ) (ds : List ℕ) → 0 < m → allDigits ds ≡ true → decimalOf (valueAfter m ds) ≡ decimalOf m ++ ds
-spelt-after m [] p h = sym (append-nil (decimalOf m))
-spelt-after m (d ∷ ds) p h =
+decimal-append : (m : ℕ) (ds : List ℕ) → 0 < m → allDigits ds ≡ true → decimalOf (valueAfter m ds) ≡ decimalOf m ++ ds
+decimal-append m [] p h = sym (append-nil (decimalOf m))
+decimal-append m (d ∷ ds) p h =
     let both = and-both (isDigit d) (allDigits ds) h in
     let bounds = digit-bounds d (both .0) in
     let front : (m * 10 + digitValue d) / 10 ≡ m = omega arith in
     let last : digit ((m * 10 + digitValue d) % 10) ≡ d = omega arith in
     let one-more : decimalOf (m * 10 + digitValue d) ≡ decimalOf m ++ (d ∷ []) = decimal-more (m * 10 + digitValue d) (omega arith) ∙ rw (front, last) in
-    spelt-after (m * 10 + digitValue d) ds (omega arith) (both .1)
+    decimal-append (m * 10 + digitValue d) ds (omega arith) (both .1)
     ∙ ap (λ (l : List ℕ). l ++ ds) one-more
     ∙ append-assoc (decimalOf m) (d ∷ []) ds
 
@@ -122,7 +121,7 @@ denotes-decimal (d ∷ e ∷ ds) n s =
     let same : digit (digitValue d) ≡ d = omega arith in
     let from : valueAfter (digitValue d) (e ∷ ds) ≡ n = ap (λ (m : ℕ). valueAfter m (e ∷ ds)) (omega arith) ∙ s .value in
     let rest : allDigits (e ∷ ds) ≡ true = and-both (isDigit d) (allDigits (e ∷ ds)) (s .digits) .1 in
-    sym (ap decimalOf (sym from) ∙ spelt-after (digitValue d) (e ∷ ds) (omega arith) rest ∙ rw (decimal-one (digitValue d) (omega arith), same))
+    sym (ap decimalOf (sym from) ∙ decimal-append (digitValue d) (e ∷ ds) (omega arith) rest ∙ rw (decimal-one (digitValue d) (omega arith), same))
 
 -- ---- how many
 

@@ -13,7 +13,7 @@ use lib.Seq.{sets}
 use Rattle.text.proofs.Laws.{IsNumber}
 use Rattle.print.specs.declared.Written.{Written}
 use Rattle.print.specs.declared.Written.the-variants.{Text, Short, Refused}
-use Rattle.print.specs.Printed.{IsDecimalOf, decimalOf, writtenNumber, writtenLength, Outcome, outcome, wholeText}
+use Rattle.print.specs.Printed.{IsDecimalOf, decimalOf, writtenNumber, writtenLength, Output, output, wholeText}
 use Rattle.print.proofs.Digits.{decimal-denotes, denotes-decimal, decimal-short}
 use Rattle.print.proofs.Writing.{wrote-read}
 
@@ -39,36 +39,36 @@ short-exactly short some xs l = go (leb (length xs) (length l)) refl
   where
     go :
         (t : Bool) → leb (length xs) (length l) ≡ t
-        → (let a : Written = cond t (outcome (Text (length xs)) (sets l 0 xs)) (outcome (Short (length xs)) l) .answer in
+        → (let a : Written = cond t (output (Text (length xs)) (sets l 0 xs)) (output (Short (length xs)) l) .answer in
         ((writtenNumber short a ≡ short) ↔ (length l < length xs)) × (writtenLength a ≡ length xs))
     go true e = ((λ z. absurd (some (sym z)), λ h. absurd (omega (arith, leb-true (length xs) (length l) e))), refl)
     go false e = ((λ z. leb-false (length xs) (length l) e, λ h. refl), refl)
 
--- what the answer tells of the buffer: it begins with the text
+-- where the answer is a text's length, the buffer begins with that text
 module _ (xs l : List ℕ) where
   from-start : length xs ≤ length l → take (length xs) (sets l 0 xs) ≡ xs
   from-start h =
       ap (λ (k : ℕ). take k (sets l 0 xs)) (sym (zero-add (length xs)))
       ∙ wrote-read {l = l} {i = 0} {xs = xs} (omega arith) (record { list = refl; next = refl })
 
-  pub text-read : (k n : ℕ) {m : List ℕ} → outcome (Text n) m ≡ wholeText k xs l → (k ≡ 0) × (take n m ≡ xs)
+  pub text-read : (k n : ℕ) {m : List ℕ} → output (Text n) m ≡ wholeText k xs l → (k ≡ 0) × (take n m ≡ xs)
   unfolding wholeText
   text-read zero n {m} e = go (leb (length xs) (length l)) refl e
     where
       go :
           (t : Bool) → leb (length xs) (length l) ≡ t
-          → outcome (Text n) m ≡ cond t (outcome (Text (length xs)) (sets l 0 xs)) (outcome (Short (length xs)) l)
+          → output (Text n) m ≡ cond t (output (Text (length xs)) (sets l 0 xs)) (output (Short (length xs)) l)
           → (zero ≡ 0) × (take n m ≡ xs)
-      go true room told =
-          let same : Text n ≡ Text (length xs) = ap (λ (o : Outcome). o .answer) told in
+      go true room same-output =
+          let same : Text n ≡ Text (length xs) = ap (λ (o : Output). o .answer) same-output in
           let size : n ≡ length xs = cc in
-          let stored : m ≡ sets l 0 xs = ap (λ (o : Outcome). o .out) told in
+          let stored : m ≡ sets l 0 xs = ap (λ (o : Output). o .out) same-output in
           (refl, rw (size, stored) (from-start (leb-true (length xs) (length l) room)))
-      go false room told =
-          let same : Text n ≡ Short (length xs) = ap (λ (o : Outcome). o .answer) told in
+      go false room same-output =
+          let same : Text n ≡ Short (length xs) = ap (λ (o : Output). o .answer) same-output in
           let z : _≡_ {A = ℕ} 0 1 = cc in
           absurd (omega arith)
   text-read (suc k) n e =
-      let same : Text n ≡ Refused (suc k) = ap (λ (o : Outcome). o .answer) e in
+      let same : Text n ≡ Refused (suc k) = ap (λ (o : Output). o .answer) e in
       let z : _≡_ {A = ℕ} 0 1 = cc in
       absurd (omega arith)

@@ -1,3 +1,4 @@
+pub mod CodeWays
 pub mod Digits
 pub mod Laws
 pub mod Whole

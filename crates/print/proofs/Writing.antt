@@ -2,18 +2,16 @@
 use mathlib.Core.Path.{_≡_, refl, sym, ap, _∙_, subst}
 use mathlib.Core.Bool.{Bool, true, false, cond}
 use mathlib.Core.List.{List, [], _∷_, _++_, append-assoc}
-use Prim.Native.Nat.{ℕ, zero, suc, _+_, _*_, _-_, _/_, _%_, _≤_, _<_}
+use Prim.Native.Nat.{ℕ, zero, suc, _+_, _*_, _-_, _≤_, _<_}
 use native.Mathlib.Nat.{add-zero, suc-add, add-suc, suc-mul}
 use native.Mathlib.Omega.{arith}
 use borrow.Author.Tests.{le-leb, leb-true, leb-false}
 use lib.Dec.{leb}
-use lib.ListN.{length, getD, take, drop, set, length-append, length-set, drop-of-length-le}
+use lib.ListN.{length, take, drop, set, length-append, length-set}
 use lib.Seq.{sets, set-out, length-sets, sets-eq, take-at, length-take-le}
 use Rattle.text.specs.Text.{countOf}
-use Rattle.text.specs.Decimal.{digit}
-use Rattle.text.proofs.Finding.{count-append, drop-next}
-use Rattle.print.specs.Printed.{decimalOf, top, placeAfter, Wrote, partsFrom}
-use Rattle.print.proofs.Digits.{decimal-one, decimal-more}
+use Rattle.text.proofs.Finding.{count-append}
+use Rattle.print.specs.Printed.{top, placeAfter, Wrote, partsFrom}
 
 -- ---- the place after n bytes
 
@@ -87,27 +85,8 @@ wrote-next {i = i} {xs = xs} w = omega (arith, w .next, after-bound i (length xs
 pub wrote-same : {l m : List ℕ} {i j : ℕ} {xs ys : List ℕ} → xs ≡ ys → Wrote l i xs m j → Wrote l i ys m j
 wrote-same {l} {m} {i} {j} e w = subst (λ (zs : List ℕ). Wrote l i zs m j) e w
 
--- ---- one byte
-
-pub stored-byte : (l : List ℕ) (i b : ℕ) → length l ≤ top → i < length l → Wrote l i (b ∷ []) (set l i b) (i + 1)
-stored-byte l i b t h = record { list = refl; next = sym (after-fits i 1 (omega arith)) }
-
-pub unstored-byte : (l : List ℕ) (i b j : ℕ) → length l ≤ i → j ≡ placeAfter i 1 → Wrote l i (b ∷ []) l j
-unstored-byte l i b j h e = record { list = sym (set-out l i b h); next = e }
-
--- ---- all of a text: before byte n of s, and at its end
-
 pub wrote-none : (l : List ℕ) (i : ℕ) → i ≤ top → Wrote l i [] l i
 wrote-none l i h = record { list = refl; next = sym (after-fits i 0 (omega arith) ∙ add-zero i) }
-
-module _ (s : List ℕ) (n : ℕ) where
-  pub rest-turn :
-      {l m r : List ℕ} {i j k : ℕ} → n < length s → length l ≤ top → Wrote l i (getD s n 0 ∷ []) m j → Wrote m j (drop (n + 1) s) r k
-      → Wrote l i (drop n s) r k
-  rest-turn h t a b = wrote-same (sym (drop-next s n h)) (wrote-then t a b)
-
-  pub rest-none : (l : List ℕ) (i : ℕ) → i ≤ top → length s ≤ n → Wrote l i (drop n s) l i
-  rest-none l i t h = wrote-same (sym (drop-of-length-le s h)) (wrote-none l i t)
 
 -- ---- parts, up to part number t: before part k, and at the end; and how long they are where each has at most b bytes
 
@@ -149,31 +128,6 @@ parts-split f (suc n) m k p t ep et =
 pub parts-count : (b : ℕ) (f : ℕ → List ℕ) → ((k : ℕ) → countOf b (f k) ≡ 1) → (n k : ℕ) → countOf b (partsFrom f k n) ≡ n
 parts-count b f h zero k = refl
 parts-count b f h (suc n) k = omega (arith, count-append b (f k) (partsFrom f (k + 1) n), h k, parts-count b f h n (k + 1))
-
--- ---- a number
-
-module _ (n : ℕ) where
-  pub number-one : {l m : List ℕ} {i j : ℕ} → n < 10 → Wrote l i (digit n ∷ []) m j → Wrote l i (decimalOf n) m j
-  number-one h w = wrote-same (sym (decimal-one n h)) w
-
-  pub number-more :
-      {l m r : List ℕ} {i j k : ℕ} → 10 ≤ n → length l ≤ top → Wrote l i (decimalOf (n / 10)) m j → Wrote m j (digit (n % 10) ∷ []) r k
-      → Wrote l i (decimalOf n) r k
-  number-more h t a b = wrote-same (sym (decimal-more n h)) (wrote-then t a b)
-
--- n + k, with k carried into the tens
-module _ (n k : ℕ) where
-  pub sum-one : {l m : List ℕ} {i j : ℕ} → n / 10 + (n % 10 + k) / 10 ≡ 0 → Wrote l i (digit (n % 10 + k) ∷ []) m j → Wrote l i (decimalOf (n + k)) m j
-  sum-one z w = let same : n % 10 + k ≡ n + k = omega arith in number-one (n + k) (omega arith) (rw same at w)
-
-  pub sum-more :
-      {l m r : List ℕ} {i j q : ℕ} → (n / 10 + (n % 10 + k) / 10 ≡ 0 → ⊥) → length l ≤ top
-      → Wrote l i (decimalOf (n / 10 + (n % 10 + k) / 10)) m j → Wrote m j (digit ((n % 10 + k) % 10) ∷ []) r q
-      → Wrote l i (decimalOf (n + k)) r q
-  sum-more z t a b =
-      let front : n / 10 + (n % 10 + k) / 10 ≡ (n + k) / 10 = omega arith in
-      let last : (n % 10 + k) % 10 ≡ (n + k) % 10 = omega arith in
-      number-more (n + k) (omega arith) t (rw front at a) (rw last at b)
 
 -- what stands before the next place: what stood there before, and the text
 pub wrote-read : {l m : List ℕ} {i j : ℕ} {xs : List ℕ} → i + length xs ≤ length l → Wrote l i xs m j → take (i + length xs) m ≡ take i l ++ xs

@@ -23,7 +23,7 @@ digitsUpTo (suc f) n =
 unfoldable pub decimalOf : ℕ → List ℕ
 decimalOf n = digitsUpTo (suc n) n
 
--- ---- which digits those are, told without them
+-- ---- which digits denote a number, by conditions on them
 
 abbrev pub allDigits : List ℕ → Bool
 allDigits [] = true
@@ -48,7 +48,7 @@ pub record IsDecimalOf (ds : List ℕ) (n : ℕ) : Type 0 where
 
 -- ---- text at a place of a buffer
 
--- the largest place that a machine word can say
+-- the largest place that a machine word holds
 abbrev pub top : ℕ
 top = 2 ^ 64 - 1
 
@@ -80,15 +80,15 @@ writtenLength (Text n) = n
 writtenLength (Short n) = n
 writtenLength (Refused k) = 0
 
--- the answer, and the buffer
-pub record Outcome : Type 0 where
+-- the answer, and the buffer after the writing
+pub record Output : Type 0 where
   pub answer : Written
   pub out : List ℕ
 
-abbrev pub outcome : Written → List ℕ → Outcome
-outcome a l = record { answer = a; out = l }
+abbrev pub output : Written → List ℕ → Output
+output a l = record { answer = a; out = l }
 
 -- the text xs into l from its start on; nothing is changed where it has no room, or where the refusal k is not 0
-unfoldable pub wholeText : ℕ → List ℕ → List ℕ → Outcome
-wholeText zero xs l = cond (leb (length xs) (length l)) (outcome (Text (length xs)) (sets l 0 xs)) (outcome (Short (length xs)) l)
-wholeText (suc k) xs l = outcome (Refused (suc k)) l
+unfoldable pub wholeText : ℕ → List ℕ → List ℕ → Output
+wholeText zero xs l = cond (leb (length xs) (length l)) (output (Text (length xs)) (sets l 0 xs)) (output (Short (length xs)) l)
+wholeText (suc k) xs l = output (Refused (suc k)) l

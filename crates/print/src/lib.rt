@@ -1,5 +1,5 @@
 // Text written into a buffer at a place: bytes, and numbers in decimal. Each writer stores what the buffer has places for and gives the
-// place after all of its bytes, so that a result above the length says that there was no room, and how much is needed.
+// place after all of its bytes, so that a result above the length shows that there was no room, and how much is needed.
 ghost use mathlib.Core.List.{[], _∷_, _++_};
 ghost use mathlib.Core.Path.{_≡_};
 ghost use Prim.Native.Nat.{_+_};

@@ -1,11 +1,11 @@
--- Searching and comparing, place by place.
-use mathlib.Core.Path.{_≡_, refl, ap, _∙_}
+-- Searching, counting and comparing.
+use mathlib.Core.Path.{_≡_, refl}
 use mathlib.Core.Bool.{Bool, true, false, cond, _&&_}
 use mathlib.Core.List.{List, [], _∷_, _++_}
 use Prim.Native.Nat.{ℕ, suc, _+_, _≤_, _<_}
 use native.Mathlib.Numerals.{add-one}
 use native.Mathlib.Omega.{arith}
-use borrow.Author.Tests.{eq-eqb, ne-eqb, eqb-true, le-leb, leb-true}
+use borrow.Author.Tests.{eqb-true, le-leb, leb-true}
 use lib.Dec.{eqb, leb}
 use lib.ListN.{length, getD, drop, drop-of-length-le, length-drop}
 use lib.Seq.{drop-cons}
@@ -29,15 +29,6 @@ module _ (s : List ℕ) (at b : ℕ) where
   unfolding findOf
   find-from h = simp (le-leb _ _ h)
 
-  pub find-here : at < length s → getD s at 0 ≡ b → findOf s at b ≡ at
-  find-here h e = find-from (omega arith) ∙ rw (drop-next s at h, eq-eqb _ _ e) (omega arith)
-
-  pub find-on : at < length s → (getD s at 0 ≡ b → ⊥) → findOf s at b ≡ findOf s (at + 1) b
-  unfolding findOf
-  find-on h n =
-      find-from (omega arith)
-      ∙ rw (drop-next s at h, ne-eqb _ _ n, le-leb (at + 1) (length s) (omega arith)) (omega arith)
-
   pub find-none : length s ≤ at → findOf s at b ≡ length s
   unfolding findOf
   find-none h = go (leb at (length s)) refl
@@ -50,17 +41,6 @@ module _ (s : List ℕ) (at b : ℕ) where
   find-bounds h = rw (find-from h) (omega (arith, simp length-drop at (before-bound b (drop at s))))
 
 -- ---- count
-
--- n bytes counted up to `at`, n′ with the byte there
-module _ (s : List ℕ) (at b n n′ : ℕ) (h : at < length s) where
-  pub count-here : getD s at 0 ≡ b → n′ ≡ n + 1 → n′ + countOf b (drop (at + 1) s) ≡ n + countOf b (drop at s)
-  count-here e en = rw (en, drop-next s at h, eq-eqb _ _ e) (omega arith)
-
-  pub count-on : (getD s at 0 ≡ b → ⊥) → n′ ≡ n → n′ + countOf b (drop (at + 1) s) ≡ n + countOf b (drop at s)
-  count-on e en = rw (en, drop-next s at h, ne-eqb _ _ e)
-
-pub count-end : (s : List ℕ) (at b n : ℕ) → length s ≤ at → n + countOf b (drop at s) ≡ n
-count-end s at b n h = rw (drop-of-length-le s h) (omega arith)
 
 pub count-bound : (b : ℕ) (s : List ℕ) → countOf b s ≤ length s
 count-bound b [] = omega arith
@@ -81,26 +61,6 @@ count-append b (x ∷ xs) ys = go (eqb x b) (count-append b xs ys)
     go false h = h
 
 -- ---- equal
-
-module _ (a b : List ℕ) (at : ℕ) (ha : at < length a) (hb : at < length b) where
-  pub same-on : getD a at 0 ≡ getD b at 0 → sameBytes (drop at a) (drop at b) ≡ sameBytes (drop (at + 1) a) (drop (at + 1) b)
-  same-on e = rw (drop-next a at ha, drop-next b at hb, eq-eqb _ _ e)
-
-  pub same-not : (getD a at 0 ≡ getD b at 0 → ⊥) → sameBytes (drop at a) (drop at b) ≡ false
-  same-not e = rw (drop-next a at ha, drop-next b at hb, ne-eqb _ _ e)
-
-pub same-end : (a b : List ℕ) (at : ℕ) → length a ≤ at → length b ≤ at → sameBytes (drop at a) (drop at b) ≡ true
-same-end a b at ha hb = rw (drop-of-length-le a ha, drop-of-length-le b hb)
-
-pub same-lengths : (a b : List ℕ) → (length a ≡ length b → ⊥) → sameBytes a b ≡ false
-same-lengths [] [] n = absurd (n refl)
-same-lengths [] (y ∷ ys) n = refl
-same-lengths (x ∷ xs) [] n = refl
-same-lengths (x ∷ xs) (y ∷ ys) n = rw (same-lengths xs ys (λ e. n (ap suc e))) (and-false (eqb x y))
-  where
-    and-false : (t : Bool) → t && false ≡ false
-    and-false true = refl
-    and-false false = refl
 
 pub same-equal : (a b : List ℕ) → sameBytes a b ≡ true → a ≡ b
 same-equal [] [] h = refl

@@ -21,7 +21,7 @@ value-exactly s n = (there (numberOf s) refl, λ h. ap fieldNumbers (ap numberOf
     there (Value m) e v =
         let same : m ≡ n = cc in
         let p = printed s n (e ∙ ap Value same) in
-        (p .small, p .spelt)
+        (p .small, p .in-decimal)
     there Malformed e v = let z : _≡_ {A = ℕ} 0 1 = cc in absurd (omega arith)
 
 -- 6 comes exactly where the bytes are no such number
@@ -32,5 +32,5 @@ six-exactly s = (λ e n h. not-both n (sym (value-exactly s n .1 h) ∙ e), λ n
     not-both n e = let z : _≡_ {A = ℕ} 0 1 = cc in omega arith
 
     go : (x : Number) → numberOf s ≡ x → ((n : ℕ) → IsNumber s n → ⊥) → fieldNumbers x ≡ 6 ∷ []
-    go (Value m) e none = let p = printed s m e in absurd (none m (p .small, p .spelt))
+    go (Value m) e none = let p = printed s m e in absurd (none m (p .small, p .in-decimal))
     go Malformed e none = refl

@@ -1,3 +1,4 @@
+pub mod CodeWays
 pub mod Finding
 pub mod Joining
 pub mod Laws

@@ -24,8 +24,8 @@ decimal-three n l = rw (le-ltb n 10 (omega arith), le-ltb n 100 l)
 
 -- ---- printed numbers are read back
 
-well : (t : Bool) (m n : ℕ) → t ≡ true → m ≡ n → cond t (Value m) Malformed ≡ Value n
-well t m n e en = rw (e, en)
+value-read : (t : Bool) (m n : ℕ) → t ≡ true → m ≡ n → cond t (Value m) Malformed ≡ Value n
+value-read t m n e en = rw (e, en)
 
 pub is-digit : (n : ℕ) → n < 10 → isDigit (digit n) ≡ true
 is-digit n h = bounds-digit (digit n) (omega arith) (omega arith)
@@ -34,17 +34,17 @@ is-leading : (n : ℕ) → 0 < n → n < 10 → isLeading (digit n) ≡ true
 is-leading n l h = bounds-leading (digit n) (omega arith) (omega arith)
 
 read-one : (n : ℕ) → n < 10 → oneDigit (digit n) ≡ Value n
-read-one n h = well (isDigit (digit n)) (digitValue (digit n)) n (is-digit n h) (omega arith)
+read-one n h = value-read (isDigit (digit n)) (digitValue (digit n)) n (is-digit n h) (omega arith)
 
 read-two : (n : ℕ) → 10 ≤ n → n < 100 → twoDigits (digit (n / 10)) (digit (n % 10)) ≡ Value n
 read-two n l h =
-    well (isLeading (digit (n / 10)) && isDigit (digit (n % 10))) (digitValue (digit (n / 10)) * 10 + digitValue (digit (n % 10))) n
+    value-read (isLeading (digit (n / 10)) && isDigit (digit (n % 10))) (digitValue (digit (n / 10)) * 10 + digitValue (digit (n % 10))) n
     (rw (is-leading (n / 10) (omega arith) (omega arith), is-digit (n % 10) (omega arith)))
     (omega arith)
 
 read-three : (n : ℕ) → 100 ≤ n → n < 1000 → threeDigits (digit (n / 100)) (digit (n / 10 % 10)) (digit (n % 10)) ≡ Value n
 read-three n l h =
-    well (isLeading (digit (n / 100)) && isDigit (digit (n / 10 % 10)) && isDigit (digit (n % 10)))
+    value-read (isLeading (digit (n / 100)) && isDigit (digit (n / 10 % 10)) && isDigit (digit (n % 10)))
     (digitValue (digit (n / 100)) * 100 + digitValue (digit (n / 10 % 10)) * 10 + digitValue (digit (n % 10))) n
     (rw (is-leading (n / 100) (omega arith) (omega arith), is-digit (n / 10 % 10) (omega arith), is-digit (n % 10) (omega arith)))
     (omega arith)
@@ -66,37 +66,37 @@ read-value false m n e = (cc, cc)
 
 pub record Printed (s : List ℕ) (n : ℕ) : Type 0 where
   pub small : n < 1000
-  pub spelt : s ≡ decimal n
+  pub in-decimal : s ≡ decimal n
 
 printed-one : (a n : ℕ) → oneDigit a ≡ Value n → Printed (a ∷ []) n
 printed-one a n e =
-    let told = read-value (isDigit a) (digitValue a) n e in
-    let bounds = digit-bounds a (told .0) in
-    let at : digit n ≡ a = omega (arith, told .1) in
-    record { small = omega (arith, told .1); spelt = sym (decimal-one n (omega (arith, told .1)) ∙ rw at) }
+    let read = read-value (isDigit a) (digitValue a) n e in
+    let bounds = digit-bounds a (read .0) in
+    let at : digit n ≡ a = omega (arith, read .1) in
+    record { small = omega (arith, read .1); in-decimal = sym (decimal-one n (omega (arith, read .1)) ∙ rw at) }
 
 printed-two : (a b n : ℕ) → twoDigits a b ≡ Value n → Printed (a ∷ b ∷ []) n
 printed-two a b n e =
-    let told = read-value (isLeading a && isDigit b) (digitValue a * 10 + digitValue b) n e in
-    let tests = and-both (isLeading a) (isDigit b) (told .0) in
+    let read = read-value (isLeading a && isDigit b) (digitValue a * 10 + digitValue b) n e in
+    let tests = and-both (isLeading a) (isDigit b) (read .0) in
     let ra = leading-bounds a (tests .0) in
     let rb = digit-bounds b (tests .1) in
-    let ten : digit (n / 10) ≡ a = omega (arith, told .1) in
-    let unit : digit (n % 10) ≡ b = omega (arith, told .1) in
-    record { small = omega (arith, told .1); spelt = sym (decimal-two n (omega (arith, told .1)) (omega (arith, told .1)) ∙ rw (ten, unit)) }
+    let ten : digit (n / 10) ≡ a = omega (arith, read .1) in
+    let unit : digit (n % 10) ≡ b = omega (arith, read .1) in
+    record { small = omega (arith, read .1); in-decimal = sym (decimal-two n (omega (arith, read .1)) (omega (arith, read .1)) ∙ rw (ten, unit)) }
 
 printed-three : (a b c n : ℕ) → threeDigits a b c ≡ Value n → Printed (a ∷ b ∷ c ∷ []) n
 printed-three a b c n e =
-    let told = read-value (isLeading a && isDigit b && isDigit c) (digitValue a * 100 + digitValue b * 10 + digitValue c) n e in
-    let tests = and-both (isLeading a && isDigit b) (isDigit c) (told .0) in
+    let read = read-value (isLeading a && isDigit b && isDigit c) (digitValue a * 100 + digitValue b * 10 + digitValue c) n e in
+    let tests = and-both (isLeading a && isDigit b) (isDigit c) (read .0) in
     let first = and-both (isLeading a) (isDigit b) (tests .0) in
     let ra = leading-bounds a (first .0) in
     let rb = digit-bounds b (first .1) in
     let rc = digit-bounds c (tests .1) in
-    let hundred : digit (n / 100) ≡ a = omega (arith, told .1) in
-    let ten : digit (n / 10 % 10) ≡ b = omega (arith, told .1) in
-    let unit : digit (n % 10) ≡ c = omega (arith, told .1) in
-    record { small = omega (arith, told .1); spelt = sym (decimal-three n (omega (arith, told .1)) ∙ rw (hundred, ten, unit)) }
+    let hundred : digit (n / 100) ≡ a = omega (arith, read .1) in
+    let ten : digit (n / 10 % 10) ≡ b = omega (arith, read .1) in
+    let unit : digit (n % 10) ≡ c = omega (arith, read .1) in
+    record { small = omega (arith, read .1); in-decimal = sym (decimal-three n (omega (arith, read .1)) ∙ rw (hundred, ten, unit)) }
 
 no-number : (n : ℕ) → Malformed ≡ Value n → ⊥
 no-number n e = let z : _≡_ {A = ℕ} 0 1 = cc in omega arith

@@ -2,13 +2,11 @@
 use mathlib.Core.Path.{_≡_, refl, sym, ap, _∙_}
 use mathlib.Core.Bool.{Bool, true, false, cond}
 use mathlib.Core.List.{List, [], _∷_}
-use Prim.Native.Nat.{ℕ, zero, suc, _+_, _-_, _≤_, _<_}
-use native.Mathlib.Decide.{decLt}
-use native.Mathlib.Nat.{add-zero}
+use Prim.Native.Nat.{ℕ, suc, _+_, _-_, _≤_, _<_}
 use native.Mathlib.Omega.{arith}
 use lib.Dec.{eqb}
-use lib.ListN.{length, getD, take, drop, length-drop, drop-of-length-le}
-use lib.Seq.{drop-drop, take-all, take-nil}
+use lib.ListN.{length, getD, take, drop, length-drop}
+use lib.Seq.{drop-drop, take-all}
 use Rattle.text.specs.Text.{before, findOf, countOf, sameBytes, split, onFirst, indexOf}
 use Rattle.text.proofs.Finding.{find-from, find-bounds, same-equal}
 
@@ -48,9 +46,6 @@ split-more b (x ∷ xs) h = go (eqb x b) (split-more b xs) h
     go true ih h = refl
     go false ih h = rw (ih (omega arith))
 
-suc-sub-one : (n : ℕ) → suc n - 1 ≡ n
-suc-sub-one n = omega arith
-
 -- the pieces of what stands at `at`, the next separator being at `end`
 module _ (s : List ℕ) (at b end : ℕ) (h : at ≤ length s) (e : end ≡ findOf s at b) where
   here : end - at ≡ before b (drop at s)
@@ -68,40 +63,6 @@ module _ (s : List ℕ) (at b end : ℕ) (h : at ≤ length s) (e : end ≡ find
   pieces-more l =
       let behind : at + suc (end - at) ≡ end + 1 = omega (arith, find-from s at b h) in
       split-more b (drop at s) (omega (arith, here, find-from s at b h, length-drop at s)) ∙ rw (← here, drop-drop, behind)
-
-  -- the first of them ends there
-  pub pieces-first : (n : ℕ) → n ≡ 0 → take (end - at) (drop at s) ≡ getD (split b (drop at s)) n []
-  pieces-first n z = rw z (go (decLt end (length s)))
-    where
-      go : Dec (end < length s) → take (end - at) (drop at s) ≡ getD (split b (drop at s)) 0 []
-      go (yes l) = rw (pieces-more l)
-      go (no m) = rw (pieces-last (omega arith))
-
-  -- the one after n others is one of those behind it
-  pub pieces-on : (n : ℕ) → end < length s → (n ≡ 0 → ⊥) → getD (split b (drop at s)) n [] ≡ getD (split b (drop (end + 1) s)) (n - 1) []
-  pieces-on zero l z = absurd (z refl)
-  pieces-on (suc n) l z = rw (pieces-more l, suc-sub-one n)
-
-  pub pieces-none : (n : ℕ) → length s ≤ end → (n ≡ 0 → ⊥) → take (length s - end) (drop end s) ≡ getD (split b (drop at s)) n []
-  pieces-none zero l z = absurd (z refl)
-  pieces-none (suc n) l z = rw (drop-of-length-le s l, take-nil (length s - end), pieces-last l)
-
-  -- a word is the first of them, or is looked for behind it
-  module _ (w : List ℕ) (n : ℕ) where
-    pub index-here : sameBytes (take (end - at) (drop at s)) w ≡ true → n + indexOf w (split b (drop at s)) ≡ n
-    index-here t = go (split b (drop at s)) (split-some b (drop at s)) (sym (pieces-first 0 refl))
-      where
-        go : (ps : List (List ℕ)) → (0 < length ps) → getD ps 0 [] ≡ take (end - at) (drop at s) → n + indexOf w ps ≡ n
-        go [] l f = absurd (omega arith)
-        go (p ∷ ps) l f = rw (f, t, add-zero)
-
-    pub index-on :
-        sameBytes (take (end - at) (drop at s)) w ≡ false → end < length s
-        → n + indexOf w (split b (drop at s)) ≡ n + 1 + indexOf w (split b (drop (end + 1) s))
-    index-on t l = rw (pieces-more l, t) (omega arith)
-
-    pub index-none : sameBytes (take (end - at) (drop at s)) w ≡ false → length s ≤ end → n + indexOf w (split b (drop at s)) ≡ n + 1
-    index-none t l = rw (pieces-last l, t)
 
 -- a word that is among them is the one at its place
 pub index-found : (w : List ℕ) (ps : List (List ℕ)) → indexOf w ps < length ps → getD ps (indexOf w ps) [] ≡ w

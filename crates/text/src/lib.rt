@@ -3,7 +3,7 @@ pub mod decimal;
 pub mod pieces;
 pub mod search;
 
-// What a field that should be a number says.
+// What a field that should be a number holds.
 pub enum Number {
     Value(u16),
     Malformed,

@@ -1,4 +1,4 @@
-use Rattle.print.proofs.Writing.{number-one, number-more}
+use Rattle.print.proofs.CodeWays.{number-one, number-more}
 use native.Mathlib.Omega.{arith}
 use borrow.Author.Needs.{needs}
 use Prim.Native.Nat.{ℕ, _<_}

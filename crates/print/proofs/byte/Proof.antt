@@ -1,4 +1,4 @@
-use Rattle.print.proofs.Writing.{stored-byte, unstored-byte}
+use Rattle.print.proofs.CodeWays.{stored-byte, unstored-byte}
 use native.Mathlib.Omega.{arith}
 use borrow.Author.Needs.{needs}
 use Rattle.print.proofs.byte.Statement.{statement}

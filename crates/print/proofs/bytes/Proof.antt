@@ -4,7 +4,8 @@ use Prim.Native.Nat.{ℕ, _-_, _≤_}
 use lib.ListN.{length, drop}
 use native.Mathlib.Omega.{arith}
 use Rattle.print.specs.Printed.{top, Wrote}
-use Rattle.print.proofs.Writing.{wrote-next, rest-turn, rest-none}
+use Rattle.print.proofs.CodeWays.{rest-turn, rest-none}
+use Rattle.print.proofs.Writing.{wrote-next}
 use borrow.Author.Needs.{needs}
 use Rattle.print.proofs.bytes.Statement.{statement}
 use Rattle.print.proofs.bytes.Tie as tie

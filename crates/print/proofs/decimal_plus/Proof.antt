@@ -1,5 +1,5 @@
 use native.Mathlib.Omega.{arith}
-use Rattle.print.proofs.Writing.{sum-one, sum-more}
+use Rattle.print.proofs.CodeWays.{sum-one, sum-more}
 use borrow.Author.Needs.{needs}
 use Rattle.print.proofs.decimal_plus.Statement.{statement}
 use Rattle.print.proofs.decimal_plus.Tie as tie

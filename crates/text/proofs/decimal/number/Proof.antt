@@ -1,4 +1,4 @@
-use Rattle.text.proofs.Numbers.{of-one, of-two, of-three, of-none}
+use Rattle.text.proofs.CodeWays.{of-one, of-two, of-three, of-none}
 use mathlib.Core.Path.{_∙_}
 use borrow.Author.Needs.{needs}
 use Rattle.text.proofs.decimal.number.Statement.{statement}

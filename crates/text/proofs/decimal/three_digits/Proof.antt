@@ -1,4 +1,4 @@
-use Rattle.text.proofs.Numbers.{told-three, value, no-value}
+use Rattle.text.proofs.CodeWays.{three-tests, value, no-value}
 use native.Mathlib.Omega.{arith}
 use borrow.Author.Needs.{needs}
 use Rattle.text.proofs.decimal.three_digits.Statement.{statement}
@@ -38,7 +38,7 @@ returns : tie.Need-returns
 returns c =
     let tested = c .before .before .before .before in
     value _ _ _
-    (told-three _ _ _ _ _ _ _ (tested .before .before .is-leading .ensures) (tested .before .is-digit .ensures) (tested .is-digit2 .ensures)
+    (three-tests _ _ _ _ _ _ _ (tested .before .before .is-leading .ensures) (tested .before .is-digit .ensures) (tested .is-digit2 .ensures)
     (c .before .before .before .if1 .taken))
     (omega (arith, c .before .before .digit .ensures, c .before .digit2 .ensures, c .digit3 .ensures))
 
@@ -46,7 +46,7 @@ returns-2 : tie.Need-returns-2
 returns-2 c =
     let tested = c .before in
     no-value _ _
-    (told-three _ _ _ _ _ _ _ (tested .before .before .is-leading .ensures) (tested .before .is-digit .ensures) (tested .is-digit2 .ensures) (c .if1 .left))
+    (three-tests _ _ _ _ _ _ _ (tested .before .before .is-leading .ensures) (tested .before .is-digit .ensures) (tested .is-digit2 .ensures) (c .if1 .left))
 
 pub three-digits-spec : {M : Type 1} → statement M
 three-digits-spec =

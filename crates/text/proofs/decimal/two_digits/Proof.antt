@@ -1,4 +1,4 @@
-use Rattle.text.proofs.Numbers.{told-two, value, no-value}
+use Rattle.text.proofs.CodeWays.{both-tests, value, no-value}
 use mathlib.Core.Path.{ap₂}
 use Prim.Native.Nat.{ℕ, _+_, _*_}
 use borrow.Author.Needs.{needs}
@@ -26,11 +26,11 @@ add-t9 c = search needs
 returns : tie.Need-returns
 returns c =
     let tested = c .before .before .before in
-    value _ _ _ (told-two _ _ _ _ _ (tested .before .is-leading .ensures) (tested .is-digit .ensures) (c .before .before .if1 .taken))
+    value _ _ _ (both-tests _ _ _ _ _ (tested .before .is-leading .ensures) (tested .is-digit .ensures) (c .before .before .if1 .taken))
     (ap₂ (λ (a b : ℕ). a * 10 + b) (c .before .digit .ensures) (c .digit2 .ensures))
 
 returns-2 : tie.Need-returns-2
-returns-2 c = no-value _ _ (told-two _ _ _ _ _ (c .before .before .is-leading .ensures) (c .before .is-digit .ensures) (c .if1 .left))
+returns-2 c = no-value _ _ (both-tests _ _ _ _ _ (c .before .before .is-leading .ensures) (c .before .is-digit .ensures) (c .if1 .left))
 
 pub two-digits-spec : {M : Type 1} → statement M
 two-digits-spec =

@@ -1,4 +1,5 @@
-use Rattle.text.proofs.Splitting.{end-bounds, index-here, index-on, index-none}
+use Rattle.text.proofs.CodeWays.{index-here, index-on, index-none}
+use Rattle.text.proofs.Splitting.{end-bounds}
 use Rattle.text.specs.Text.{split, indexOf}
 use lib.ListN.{length, drop}
 use native.Mathlib.Nat.{zero-add}

@@ -1,4 +1,5 @@
-use Rattle.text.proofs.Splitting.{end-bounds, pieces-first, pieces-on, pieces-none}
+use Rattle.text.proofs.CodeWays.{pieces-first, pieces-on, pieces-none}
+use Rattle.text.proofs.Splitting.{end-bounds}
 use Rattle.text.specs.Text.{split}
 use lib.ListN.{length, getD, drop}
 use Prim.Native.Nat.{_≤_}

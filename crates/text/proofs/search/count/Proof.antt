@@ -1,5 +1,5 @@
 use native.Mathlib.Omega.{arith}
-use Rattle.text.proofs.Finding.{count-here, count-on, count-end}
+use Rattle.text.proofs.CodeWays.{count-here, count-on, count-end}
 use Rattle.text.specs.Text.{countOf}
 use lib.ListN.{length, drop}
 use Prim.Native.Nat.{_+_, _-_, _≤_}

@@ -1,4 +1,4 @@
-use Rattle.text.proofs.Finding.{same-on, same-not, same-end, same-lengths}
+use Rattle.text.proofs.CodeWays.{same-on, same-not, same-end, same-lengths}
 use Rattle.text.specs.Text.{sameBytes}
 use lib.ListN.{length, drop}
 use native.Mathlib.Omega.{arith}

@@ -1,4 +1,5 @@
-use Rattle.text.proofs.Finding.{find-here, find-on, find-none}
+use Rattle.text.proofs.CodeWays.{find-here, find-on}
+use Rattle.text.proofs.Finding.{find-none}
 use Rattle.text.specs.Text.{findOf}
 use lib.ListN.{length}
 use Prim.Native.Nat.{_-_}
