@@ -72,10 +72,10 @@ by-phase s b is-byte h =
     accepted-step b s h
     ∙ ap (λ (e : Event). applied e (s .chip .count + 1) (state (counted (s .chip)) (s .memory) (s .writers))) (byte-event b is-byte)
 
-pub in-phase-told :
+pub in-known-phase :
     (s : State) (b : ℕ) → b < 256 → refusalOf b s ≡ 0 → (p : Phase) → s .chip .phase ≡ p
     → stepOf b s ≡ onByte p b (s .chip .count + 1) (state (counted (s .chip)) (s .memory) (s .writers))
-in-phase-told s b is-byte h p e =
+in-known-phase s b is-byte h p e =
     by-phase s b is-byte h ∙ ap (λ (q : Phase). onByte q b (s .chip .count + 1) (state (counted (s .chip)) (s .memory) (s .writers))) e
 
 pub display-step : (s : State) (b : ℕ) → b < 256 → refusalOf b s ≡ 0 → awaitsData (s .chip .phase) ≡ true → stepOf b s ≡ displayed b s

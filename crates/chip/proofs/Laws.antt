@@ -20,16 +20,16 @@ use Rattle.chip.specs.Phases.{awaitsData, awaitsCommand, ignoresBytes, p
 use Rattle.chip.specs.Promised.{Refused, Nothing, Acknowledged, NotAcknowledged, Read, nothingStored, Fit, entryRefusal, refusalOf, isAddressed, acknowledge, phaseAfterAddress, controlled, phaseAfterLastRead, pulsed, sensed, commandOf}
 use Rattle.chip.specs.Runs.{continued, StepByStep}
 use Rattle.chip.specs.When.{When}
-use Rattle.chip.proofs.Events.{by-phase, in-phase-told, command-at, display-step, ignored-at}
+use Rattle.chip.proofs.Events.{by-phase, in-known-phase, command-at, display-step, ignored-at}
 use Rattle.chip.proofs.LastWriter.{from-written, idle, counts-accepted}
-use Rattle.chip.proofs.Refusals.{verdict, when-so, accepted-step}
+use Rattle.chip.proofs.Refusals.{refusal-when, when-so, accepted-step}
 use Rattle.chip.proofs.Runs.{from-append, from-fit, from-steps, entry-stops}
 
 -- ---- refusals
 
 -- each number comes exactly when document 01's table says
 pub exactly-when : (e : ℕ) (s : State) (k : ℕ) → (refusalOf e s ≡ k) ↔ When e s k
-exactly-when e s k = (λ q. subst (λ (n : ℕ). When e s n) q (verdict e s), when-so e s k)
+exactly-when e s k = (λ q. subst (λ (n : ℕ). When e s n) q (refusal-when e s), when-so e s k)
 
 -- a refused event gives its number, and changes nothing
 pub refused : (e : ℕ) (s : State) (k : ℕ) → refusalOf e s ≡ suc k → stepOf e s ≡ record { answer = Refused (suc k); state = s }
@@ -79,10 +79,10 @@ module _ (s : State) where
         → stepOf b s
         ≡ nothingStored (acknowledge (isAddressed (s .chip .pins) b)) (inPhase (counted (s .chip)) (phaseAfterAddress (isAddressed (s .chip .pins) b) b)) s
     unfolding counted
-    address-law e = in-phase-told s b is-byte h AddressAwaited e
+    address-law e = in-known-phase s b is-byte h AddressAwaited e
 
     pub control-law : s .chip .phase ≡ ControlAwaited → stepOf b s ≡ nothingStored Acknowledged (controlled b (counted (s .chip))) s
-    control-law e = in-phase-told s b is-byte h ControlAwaited e
+    control-law e = in-known-phase s b is-byte h ControlAwaited e
 
     pub command-law :
         awaitsCommand (s .chip .phase) ≡ true

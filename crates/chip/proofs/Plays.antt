@@ -19,11 +19,11 @@ use Rattle.engine.specs.Step.{accepted, counted, controlled, acknowledge}
 use Rattle.engine.proofs.Refusals.{fit-entry}
 use Rattle.engine.specs.Phases.{isAddressed, phaseAfterAddress}
 use Rattle.chip.specs.LastWriter.{before}
-use Rattle.chip.specs.Plays.{Good, Plays, played, Sees, writeAddress, singles, message, dataMessage, Does, Leads, advanced, written, Bytes}
+use Rattle.chip.specs.Plays.{Good, Plays, played, Visible, writeAddress, singles, message, dataMessage, Does, Leads, advanced, written, Bytes}
 use Rattle.chip.specs.Plays.Leads.{no-more, by}
 use Rattle.chip.specs.Promised.{After, Fit, refusalOf, stepOf, outcome, storedOf, placeOf, nextAddress}
 use Rattle.commands.specs.Command.{commandOf}
-use Rattle.chip.specs.When.{Listed}
+use Rattle.chip.specs.When.{ListedEvent}
 use Rattle.chip.proofs.Laws.{exactly-when, stays-fit, count-law, start-law, stop-law, address-law, control-law, command-law, display-law}
 use Rattle.registers.proofs.Within.{allowed-pins}
 use Rattle.chip.proofs.Refusals.{accepted-step}
@@ -54,11 +54,11 @@ plays-end (e ∷ es) Q s p = plays-end es Q (stepOf e s .state) (p .1)
 
 -- and the phase besides
 record Stands (p : Phase) (r : Registers) (m : List ℕ) (pins n : ℕ) (s : State) : Type 0 where
-  sees : Sees r m pins n s
+  visible : Visible r m pins n s
   phase : s .chip .phase ≡ p
 
-module _ (r : Registers) (m : List ℕ) (pins n : ℕ) (s : State) (v : Sees r m pins (suc n) s) where
-  accepts : (e : ℕ) → Listed e → refusalOf e s ≡ 0
+module _ (r : Registers) (m : List ℕ) (pins n : ℕ) (s : State) (v : Visible r m pins (suc n) s) where
+  accepts : (e : ℕ) → ListedEvent e → refusalOf e s ≡ 0
   accepts e l = exactly-when e s 0 .1 (v .fit, l, λ q. omega (arith, v .room))
 
   accepts-byte : (b : ℕ) → b < 256 → refusalOf b s ≡ 0
@@ -71,7 +71,7 @@ module _ (r : Registers) (m : List ℕ) (pins n : ℕ) (s : State) (v : Sees r m
       → Stands p r′ m′ pins n (stepOf e s .state)
   stands e h a step p r′ m′ ep er em epins =
       record {
-        sees = record {
+        visible = record {
           registers = ap (λ (x : After). x .state .chip .registers) step ∙ er;
           memory = ap (λ (x : After). x .state .memory) step ∙ em;
           pins-are = ap (λ (x : After). x .state .chip .pins) step ∙ epins;
@@ -159,8 +159,8 @@ commands-play es Q m pins n (no-more {r = r}) rest s st = rest s (subst (λ (x :
 commands-play es Q m pins n (by {b = b} {bs = bs} {r = r} {q = q} does leads) rest s st =
     let two : 2 * suc (length bs) + n ≡ suc (suc (2 * length bs + n)) = omega arith in
     let st′ : Stands ControlAwaited r m pins (suc (suc (2 * length bs + n))) s = subst (λ (x : ℕ). Stands ControlAwaited r m pins x s) two st in
-    let one = single-plays r m pins (suc (2 * length bs + n)) s (st′ .sees) (st′ .phase) in
-    let then = command-plays r m pins (2 * length bs + n) (stepOf 128 s .state) (one .1 .sees) b q does (one .1 .phase) in
+    let one = single-plays r m pins (suc (2 * length bs + n)) s (st′ .visible) (st′ .phase) in
+    let then = command-plays r m pins (2 * length bs + n) (stepOf 128 s .state) (one .1 .visible) b q does (one .1 .phase) in
     (one .0, (then .0, commands-play es Q m pins n leads rest _ (then .1)))
 
 -- display bytes, then whatever plays from there
@@ -173,14 +173,14 @@ displays-play [] es Q r m pins n bytes rest s st = rest s (subst (λ (x : ℕ). 
 displays-play (d ∷ ds) es Q r m pins n bytes rest s st =
     let one : suc (length ds) + n ≡ suc (length ds + n) = omega arith in
     let st′ : Stands (EndlessBytes true) r m pins (suc (length ds + n)) s = subst (λ (x : ℕ). Stands (EndlessBytes true) r m pins x s) one st in
-    let here = display-plays r m pins (length ds + n) s (st′ .sees) d (bytes .0) (st′ .phase) in
+    let here = display-plays r m pins (length ds + n) s (st′ .visible) d (bytes .0) (st′ .phase) in
     (here .0, displays-play ds es Q (nextAddress r) (set m (placeOf r) (storedOf r d)) pins n (bytes .1) rest _ (here .1))
 
 -- STOP, the last event
 stop-ends :
-    (p : Phase) (r : Registers) (m : List ℕ) (pins n : ℕ) (s : State) → Stands p r m pins (suc n) s → Plays (257 ∷ []) (Sees r m pins n) s
+    (p : Phase) (r : Registers) (m : List ℕ) (pins n : ℕ) (s : State) → Stands p r m pins (suc n) s → Plays (257 ∷ []) (Visible r m pins n) s
 unfolding Plays
-stop-ends p r m pins n s st = let stop = stop-plays r m pins n s (st .sees) in (stop .0, stop .1 .sees)
+stop-ends p r m pins n s st = let stop = stop-plays r m pins n s (st .visible) in (stop .0, stop .1 .visible)
 
 pub singles-length : (bs es : List ℕ) → length (singles bs es) ≡ 2 * length bs + length es
 singles-length [] es = omega arith
@@ -189,40 +189,40 @@ singles-length (b ∷ bs) es = omega (arith, singles-length bs es)
 -- START and the address, then whatever plays from there
 opens :
     (es : List ℕ) (Q : State → Type 0) (r : Registers) (m : List ℕ) (pins n : ℕ)
-    → ((t : State) → Stands ControlAwaited r m pins n t → Plays es Q t) → (s : State) → Sees r m pins (suc (suc n)) s → Plays (256 ∷ writeAddress pins ∷ es) Q s
+    → ((t : State) → Stands ControlAwaited r m pins n t → Plays es Q t) → (s : State) → Visible r m pins (suc (suc n)) s → Plays (256 ∷ writeAddress pins ∷ es) Q s
 unfolding Plays
 opens es Q r m pins n rest s v =
     let start = start-plays r m pins (suc n) s v in
-    let address = address-plays r m pins n (stepOf 256 s .state) (start .1 .sees) (start .1 .phase) in
+    let address = address-plays r m pins n (stepOf 256 s .state) (start .1 .visible) (start .1 .phase) in
     (start .0, (address .0, rest _ (address .1)))
 
 -- a message of commands takes the registers along them, and leaves the memory as it was
 pub message-plays :
-    (bs : List ℕ) (r r′ : Registers) (m : List ℕ) (pins n : ℕ) → Leads bs r r′ → (s : State) → Sees r m pins (length (message pins bs) + n) s
-    → Plays (message pins bs) (Sees r′ m pins n) s
+    (bs : List ℕ) (r r′ : Registers) (m : List ℕ) (pins n : ℕ) → Leads bs r r′ → (s : State) → Visible r m pins (length (message pins bs) + n) s
+    → Plays (message pins bs) (Visible r′ m pins n) s
 message-plays bs r r′ m pins n leads s v =
-    opens (singles bs (257 ∷ [])) (Sees r′ m pins n) r m pins (2 * length bs + suc n)
-    (commands-play (257 ∷ []) (Sees r′ m pins n) m pins (suc n) leads (λ t st. stop-ends ControlAwaited r′ m pins n t st))
-    s (subst (λ (x : ℕ). Sees r m pins x s) (omega (arith, singles-length bs (257 ∷ []))) v)
+    opens (singles bs (257 ∷ [])) (Visible r′ m pins n) r m pins (2 * length bs + suc n)
+    (commands-play (257 ∷ []) (Visible r′ m pins n) m pins (suc n) leads (λ t st. stop-ends ControlAwaited r′ m pins n t st))
+    s (subst (λ (x : ℕ). Visible r m pins x s) (omega (arith, singles-length bs (257 ∷ []))) v)
 
 -- a message with display bytes stores them where its commands say
 pub data-message-plays :
     (bs ds : List ℕ) (r r′ : Registers) (m : List ℕ) (pins n : ℕ) → Leads bs r r′ → Bytes ds
-    → (s : State) → Sees r m pins (length (dataMessage pins bs ds) + n) s
-    → Plays (dataMessage pins bs ds) (Sees (advanced ds r′) (written ds r′ m) pins n) s
+    → (s : State) → Visible r m pins (length (dataMessage pins bs ds) + n) s
+    → Plays (dataMessage pins bs ds) (Visible (advanced ds r′) (written ds r′ m) pins n) s
 unfolding Plays
 data-message-plays bs ds r r′ m pins n leads dbytes s v =
-    let Q : State → Type 0 = Sees (advanced ds r′) (written ds r′ m) pins n in
+    let Q : State → Type 0 = Visible (advanced ds r′) (written ds r′ m) pins n in
     opens (singles bs (64 ∷ ds ++ 257 ∷ [])) Q r m pins (2 * length bs + suc (length ds + suc n))
     (commands-play (64 ∷ ds ++ 257 ∷ []) Q m pins (suc (length ds + suc n)) leads
     (λ t st.
-    let control = data-plays r′ m pins (length ds + suc n) t (st .sees) (st .phase) in (
+    let control = data-plays r′ m pins (length ds + suc n) t (st .visible) (st .phase) in (
       control .0,
       displays-play ds (257 ∷ []) Q r′ m pins (suc n) dbytes (λ u su. stop-ends (EndlessBytes true) (advanced ds r′) (written ds r′ m) pins n u su)
           (stepOf 64 t .state) (control .1),
     )))
     s
-    (subst (λ (x : ℕ). Sees r m pins x s) (omega (arith, singles-length bs (64 ∷ ds ++ 257 ∷ []), length-append ds (257 ∷ []))) v)
+    (subst (λ (x : ℕ). Visible r m pins x s) (omega (arith, singles-length bs (64 ∷ ds ++ 257 ∷ []), length-append ds (257 ∷ []))) v)
 
 -- ---- the whole of what was played
 

@@ -12,7 +12,7 @@ use Rattle.registers.specs.Refusals.{refuse, _then_, isListedEvent}
 use Rattle.registers.specs.State.{State, places}
 use Rattle.registers.proofs.Below.{true-false, false-true}
 use Rattle.engine.specs.Step.{entryRefusal, eventRefusal, refusalOf, accepted, stepOf}
-use Rattle.chip.specs.When.{Listed, Lengths, When}
+use Rattle.chip.specs.When.{ListedEvent, Lengths, When}
 
 -- ---- listed events
 
@@ -20,24 +20,24 @@ or-true : (t : Bool) → t || true ≡ true
 or-true true = refl
 or-true false = refl
 
-listed-true : (e : ℕ) → Listed e → isListedEvent e ≡ true
+listed-true : (e : ℕ) → ListedEvent e → isListedEvent e ≡ true
 listed-true e (inl h) = simp (le-leb e 260 (omega arith))
 listed-true e (inr h) = simp (le-leb 512 e (omega (arith, h .0)), le-leb e 767 (omega (arith, h .1))) (or-true (leb e 260))
 
-is-listed : (e : ℕ) → isListedEvent e ≡ true → Listed e
-is-listed e = go (leb e 260) (leb 512 e) (leb e 767) refl refl refl
+is-listed-event : (e : ℕ) → isListedEvent e ≡ true → ListedEvent e
+is-listed-event e = go (leb e 260) (leb 512 e) (leb e 767) refl refl refl
   where
-    go : (a b c : Bool) → leb e 260 ≡ a → leb 512 e ≡ b → leb e 767 ≡ c → a || (b && c) ≡ true → Listed e
+    go : (a b c : Bool) → leb e 260 ≡ a → leb 512 e ≡ b → leb e 767 ≡ c → a || (b && c) ≡ true → ListedEvent e
     go true b c ea eb ec t = inl (omega (arith, leb-true e 260 ea))
     go false true true ea eb ec t = inr (omega (arith, leb-true 512 e eb), omega (arith, leb-true e 767 ec))
     go false true false ea eb ec t = absurd (false-true t)
     go false false c ea eb ec t = absurd (false-true t)
 
-listed-false : (e : ℕ) → (Listed e → ⊥) → isListedEvent e ≡ false
+listed-false : (e : ℕ) → (ListedEvent e → ⊥) → isListedEvent e ≡ false
 listed-false e n = go (isListedEvent e) refl
   where
     go : (t : Bool) → isListedEvent e ≡ t → t ≡ false
-    go true q = absurd (n (is-listed e q))
+    go true q = absurd (n (is-listed-event e q))
     go false q = refl
 
 -- ---- exactly when
@@ -55,13 +55,13 @@ decided e s true true true false f em ew ea el ef = (
   λ h. true-false (sym (listed-true e h) ∙ el),
 )
 decided e s true true true true true em ew ea el ef =
-    (record { memory-long = eqb-true _ _ em; writers-long = eqb-true _ _ ew; is-allowed = ea }, is-listed e el, eqb-true _ _ ef)
+    (record { memory-long = eqb-true _ _ em; writers-long = eqb-true _ _ ew; is-allowed = ea }, is-listed-event e el, eqb-true _ _ ef)
 decided e s true true true true false em ew ea el ef =
-    (record { memory-long = eqb-true _ _ em; writers-long = eqb-true _ _ ew; is-allowed = ea }, is-listed e el, eqb-false _ _ ef)
+    (record { memory-long = eqb-true _ _ em; writers-long = eqb-true _ _ ew; is-allowed = ea }, is-listed-event e el, eqb-false _ _ ef)
 
-pub verdict : (e : ℕ) (s : State) → When e s (refusalOf e s)
+pub refusal-when : (e : ℕ) (s : State) → When e s (refusalOf e s)
 unfolding refusalOf entryRefusal eventRefusal
-verdict e s =
+refusal-when e s =
     decided e s (eqb (length (s .memory)) places) (eqb (length (s .writers)) places) (allowed (s .chip)) (isListedEvent e) (eqb (s .chip .count) (2 ^ 64 - 1))
     refl refl refl refl refl
 

@@ -7,12 +7,12 @@ use borrow.Author.Tests.{le-leb}
 use lib.Dec.{eqb, eqb→eq}
 use lib.ListN.{List·getD-map}
 use Rattle.registers.specs.declared.Registers.{Registers}
-use Rattle.registers.specs.Encode.{rowByte, aimed}
+use Rattle.registers.specs.Encode.{rowByte, withParts}
 use Rattle.registers.specs.Places.{H, X, Y}
 use Rattle.registers.specs.Record.{put, blank}
 use Rattle.registers.specs.Table.{Row, Part, rows, noRow, rowAt, taken}
 use Rattle.registers.proofs.Below.{below-at}
-use Rattle.registers.proofs.Encode.{FitParts, row-byte, row-says, row-found, says-taken}
+use Rattle.registers.proofs.Encode.{FitParts, row-byte, row-encodes, row-found, encodes-taken}
 use Rattle.registers.proofs.TableTest.{rowNo}
 use Rattle.commands.specs.Command.{commandOf, partsAt}
 use Rattle.display.specs.Display.{nextAddress}
@@ -31,14 +31,14 @@ leads-bytes (by d l) = (d .is-byte, leads-bytes l)
 -- a row's byte in its own page sets the row's fields as meant
 pub row-does :
     (i : ℕ) → i < 21 → (t : Registers) → FitParts (rowNo i .parts) t → (r : Registers) → r .h ≤ 4 → rowNo i .page ≡ r .h
-    → Does (rowByte (rowNo i) t) r (aimed (rowNo i .parts) t r)
+    → Does (rowByte (rowNo i) t) r (withParts (rowNo i .parts) t r)
 unfolding commandOf
 row-does i l t fit r h e =
     record {
       is-byte = row-byte i l t fit;
       leaves = ap (λ (j : ℕ). taken (partsAt j) (rowByte (rowNo i) t) r) (row-found i l t fit (r .h) h e)
           ∙ ap (λ (ps : List Part). taken ps (rowByte (rowNo i) t) r) (List·getD-map (λ (w : Row). w .parts) rows i noRow)
-          ∙ says-taken (rowNo i .parts) (rowByte (rowNo i) t) t r (row-says i l t fit);
+          ∙ encodes-taken (rowNo i .parts) (rowByte (rowNo i) t) t r (row-encodes i l t fit);
     }
 
 -- 00000001 selects page 0, in any page

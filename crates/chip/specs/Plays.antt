@@ -24,7 +24,7 @@ played [] s = s
 played (e ∷ es) s = played es (stepOf e s .state)
 
 -- what can be seen of a state from outside: registers, display memory, pins, that 1 and 2 let it pass, and room for n more events
-pub record Sees (r : Registers) (m : List ℕ) (pins n : ℕ) (s : State) : Type 0 where
+pub record Visible (r : Registers) (m : List ℕ) (pins n : ℕ) (s : State) : Type 0 where
   pub registers : s .chip .registers ≡ r
   pub memory : s .memory ≡ m
   pub pins-are : s .chip .pins ≡ pins

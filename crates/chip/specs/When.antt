@@ -10,8 +10,8 @@ use Rattle.registers.specs.State.{State, places}
 use Rattle.chip.specs.Promised.{Fit}
 
 -- the event numbers that document 01 lists
-abbrev pub Listed : ℕ → Type 0
-Listed e = (e ≤ 260) ⊎ ((512 ≤ e) × (e ≤ 767))
+abbrev pub ListedEvent : ℕ → Type 0
+ListedEvent e = (e ≤ 260) ⊎ ((512 ≤ e) × (e ≤ 767))
 
 -- both lent memories are 1,717 long
 pub record Lengths (s : State) : Type 0 where
@@ -21,11 +21,11 @@ pub record Lengths (s : State) : Type 0 where
 -- the conditions of 0 (no refusal), 1, 2, 3, 4
 abbrev pub conditions : ℕ → State → List (Type 0)
 conditions e s =
-    (Fit s × Listed e × (s .chip .count ≡ 2 ^ 64 - 1 → ⊥))
+    (Fit s × ListedEvent e × (s .chip .count ≡ 2 ^ 64 - 1 → ⊥))
     ∷ (Lengths s → ⊥)
     ∷ (Lengths s × (allowed (s .chip) ≡ false))
-    ∷ (Fit s × (Listed e → ⊥))
-    ∷ (Fit s × Listed e × (s .chip .count ≡ 2 ^ 64 - 1))
+    ∷ (Fit s × (ListedEvent e → ⊥))
+    ∷ (Fit s × ListedEvent e × (s .chip .count ≡ 2 ^ 64 - 1))
     ∷ []
 
 abbrev pub When : ℕ → State → ℕ → Type 0

@@ -43,8 +43,8 @@ module _ (rs : Bool) (p : Phase) (b number : ℕ) (s : State) where
   command-content moved c′ next t e n ec = simp (t, ec, e, n)
 
 -- the phase is told: what is right in that phase is right
-pub in-told-phase : (told phase : Phase) (b number : ℕ) (s : State) (a : After) → phase ≡ told → a ≡ onByte told b number s → a ≡ onByte phase b number s
-in-told-phase told phase b number s a e h = subst (λ (p : Phase). a ≡ onByte p b number s) (sym e) h
+pub in-known-phase : (told phase : Phase) (b number : ℕ) (s : State) (a : After) → phase ≡ told → a ≡ onByte told b number s → a ≡ onByte phase b number s
+in-known-phase told phase b number s a e h = subst (λ (p : Phase). a ≡ onByte p b number s) (sym e) h
 
 -- where content is awaited, the phase says its RS and what comes after it
 in-content-phase :
@@ -72,16 +72,16 @@ no-content told phase a a′ e t f = cc
 -- ---- an event
 
 -- the event is told, and what was made of it: what is right for it is right
-pub in-told-event :
+pub in-known-event :
     (told event : Event) (number : ℕ) (s : State) (a a′ : Answer) (c c₁ c′ : Chip) → event ≡ told → (a ≡ a′) × (c ≡ c₁) → c₁ ≡ c′
     → nothingStored a′ c′ s ≡ applied told number s → nothingStored a c s ≡ applied event number s
-in-told-event told event number s a a′ c c₁ c′ e made ec h =
+in-known-event told event number s a a′ c c₁ c′ e made ec h =
     subst (λ (v : Event). nothingStored a c s ≡ applied v number s) (sym e)
     (ap₂ (λ (x : Answer) (y : Chip). nothingStored x y s) (made .0) (made .1 ∙ ec) ∙ h)
 
 -- the event is told, and is a byte: that does not come here
-pub no-byte-told : (told event : Event) (a a′ : After) → event ≡ told → isByte told ≡ true → isByte event ≡ false → a ≡ a′
-no-byte-told told event a a′ e t f = cc
+pub no-byte-known : (told event : Event) (a a′ : After) → event ≡ told → isByte told ≡ true → isByte event ≡ false → a ≡ a′
+no-byte-known told event a a′ e t f = cc
 
 module _ (e : ℕ) (s : State) (a : After) where
   pub accept-byte :

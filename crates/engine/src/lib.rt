@@ -3,7 +3,7 @@ pub mod answer;
 mod apply;
 mod byte;
 mod event;
-mod plain;
+mod other;
 mod refusal;
 pub mod run;
 mod sequence;

@@ -4,7 +4,7 @@ use mathlib.Core.List.{List, [], _∷_}
 use Prim.Native.Nat.{ℕ}
 use lib.Dec.{eqb, leb, ltb}
 use lib.ListN.{length, getD}
-use Rattle.registers.specs.Listed.{listed}
+use Rattle.registers.specs.Unreadable.{rowUnreadable}
 use Rattle.registers.specs.Places.{H, X, Y, GR}
 use Rattle.registers.specs.Record.{names, limits}
 use Rattle.text.specs.declared.Number.{Number}
@@ -43,7 +43,7 @@ fillWithin c0 c1 b0 b1 n = cond (fillFits c0 c1 b0 b1 n) (Good (Fill c0 c1 b0 b1
 
 -- 7 where the value is wider than its field, then 8
 abbrev pub setWithin : ℕ → ℕ → Parsed
-setWithin f n = cond (leb n (getD limits f 0)) (cond (listed f) (Bad 8) (Good (Set f n))) (Bad 7)
+setWithin f n = cond (leb n (getD limits f 0)) (cond (rowUnreadable f) (Bad 8) (Good (Set f n))) (Bad 7)
 
 -- ---- 6, whatever the numbers are
 

@@ -5,7 +5,7 @@ use mathlib.Core.List.{List, [], _∷_}
 use mathlib.Core.Path.{_≡_}
 use Prim.Native.Nat.{ℕ, _≤_, _<_}
 use lib.ListN.{getD}
-use Rattle.registers.specs.Listed.{listed}
+use Rattle.registers.specs.Unreadable.{rowUnreadable}
 use Rattle.registers.specs.Places.{H, X, Y, GR}
 use Rattle.registers.specs.Record.{names, limits}
 use Rattle.text.specs.Decimal.{decimal}
@@ -75,13 +75,13 @@ InRange (set f n) = n ≤ getD limits f 0
 unfoldable pub RowReadable : Syntax → Type 0
 RowReadable (put c b n) = Unit {0}
 RowReadable (fill c0 c1 b0 b1 n) = Unit {0}
-RowReadable (set f n) = listed f ≡ false
+RowReadable (set f n) = rowUnreadable f ≡ false
 
 -- the same limits, of a line: a register that can be named, whose row can be read, and a value of its width
 pub record ValidSet (f n : ℕ) : Type 0 where
   pub field : Field f
   pub value : n ≤ getD limits f 0
-  pub readable : listed f ≡ false
+  pub readable : rowUnreadable f ≡ false
 
 unfoldable pub Valid : Line → Type 0
 Valid (Fill c0 c1 b0 b1 n) = ValidFill c0 c1 b0 b1 n

@@ -14,7 +14,7 @@ use Rattle.registers.specs.declared.Phase.the-variants.{Idle, AddressAwaited, I
 use Rattle.registers.specs.Record.{allowed, within, values}
 use Rattle.registers.proofs.Below.{allBelow, below-at}
 use Rattle.registers.proofs.Within.{both-left, both-right}
-use Rattle.registers.proofs.Tables.{listed}
+use Rattle.registers.proofs.Tables.{tabulated}
 use Rattle.record_words.specs.declared.Read.the-variants.{Record, NoRecord}
 use Rattle.record_words.specs.Words.{wordLimits, recordLength, standsFor, chipOf, wordsOf, phaseOf, phaseNumber, phaseRs, rsFits, bit, isSet, readOf, readNumber, stored}
 use Rattle.record_words.proofs.Stands.{true-of, in-words, stands-length, stands-within, stands-at, stands-rs}
@@ -53,7 +53,7 @@ words-chip-words ws h =
     bit (isSet (getD l 31 0)) ≡ getD l 31 0 → phaseNumber (phaseIn l) ≡ getD l 32 0 → bit (phaseRs (phaseIn l)) ≡ getD l 33 0
     → wordsOf (chipOf l) ≡ l)
     (λ f last number rs.
-    ap (λ (k : List ℕ). values (chipOf (listed f 0 recordLength) .registers) ++ (f 29 ∷ f 30 ∷ k))
+    ap (λ (k : List ℕ). values (chipOf (tabulated f 0 recordLength) .registers) ++ (f 29 ∷ f 30 ∷ k))
     (three _ _ _ _ _ _ (f 34) last number rs))
     ws (stands-length ws h)
     (bit-back (getD ws 31 0) (stands-at ws h 31))

@@ -10,7 +10,7 @@ use lib.Dec.{T, leb, eqb}
 use lib.ListN.{length, getD}
 use Rattle.registers.specs.Record.{within}
 use Rattle.registers.proofs.Below.{below-at}
-use Rattle.registers.proofs.Tables.{listed}
+use Rattle.registers.proofs.Tables.{tabulated}
 use Rattle.registers.proofs.Within.{both-left, both-right, within-at}
 use Rattle.record_words.specs.Words.{PHASE, PHASE-RS, wordLimits, recordLength, standsFor, rsFits}
 
@@ -19,16 +19,16 @@ true-of true t = refl
 true-of false t = absurd t
 
 -- a list by its elements
-spelled-from : (f : ℕ → ℕ) (l : List ℕ) (a : ℕ) → ((k : ℕ) → getD l k 0 ≡ f (a + k)) → listed f a (length l) ≡ l
+spelled-from : (f : ℕ → ℕ) (l : List ℕ) (a : ℕ) → ((k : ℕ) → getD l k 0 ≡ f (a + k)) → tabulated f a (length l) ≡ l
 spelled-from f [] a h = refl
 spelled-from f (x ∷ l) a h =
     rw (spelled-from f l (suc a) (λ k. h (suc k) ∙ ap f (add-suc a k ∙ sym (suc-add a k))), sym (h 0 ∙ ap f (add-zero a)))
 
-pub spelled : (n : ℕ) (l : List ℕ) → length l ≡ n → listed (λ k. getD l k 0) 0 n ≡ l
+pub spelled : (n : ℕ) (l : List ℕ) → length l ≡ n → tabulated (λ k. getD l k 0) 0 n ≡ l
 spelled n l e = rw (← e) (spelled-from (λ k. getD l k 0) l 0 (λ k. ap (λ (j : ℕ). getD l j 0) (sym (zero-add k))))
 
 -- what holds of every list of a record's length that is spelled out holds of every list of that length
-pub in-words : (P : List ℕ → Type 0) → ((f : ℕ → ℕ) → P (listed f 0 recordLength)) → (l : List ℕ) → length l ≡ recordLength → P l
+pub in-words : (P : List ℕ → Type 0) → ((f : ℕ → ℕ) → P (tabulated f 0 recordLength)) → (l : List ℕ) → length l ≡ recordLength → P l
 in-words P h l e = subst P (spelled recordLength l e) (h (λ k. getD l k 0))
 
 -- ---- what the test gives

@@ -12,7 +12,7 @@ use lib.Dec.{T, leb, eqb, leb→le, eqb→eq}
 use lib.ListN.{getD, length}
 use lib.Pow.{pow-pos, pow-mono, pow-add}
 use Rattle.registers.specs.declared.Registers.{Registers}
-use Rattle.registers.specs.Encode.{held, encoded, rowByte, aimed}
+use Rattle.registers.specs.Encode.{held, encoded, rowByte, withParts}
 use Rattle.registers.specs.Table.{Part, Row, rows, noRow, above, value, opened, isOf, taken, putTo, matches, matchesAt, rowAmong, rowAt}
 use Rattle.registers.proofs.Below.{allBelow, below-at, and-left, and-right}
 use Rattle.registers.proofs.TableTest.{rowNo, rows-apart}
@@ -28,9 +28,9 @@ FitParts [] t = Unit
 FitParts (p ∷ ps) t = (held (p .target) t < 2 ^ (p .width)) × FitParts ps t
 
 -- each part of byte b says what t holds
-abbrev pub Says : List Part → ℕ → Registers → Type 0
-Says [] b t = Unit
-Says (p ∷ ps) b t = (value p b ≡ held (p .target) t) × Says ps b t
+abbrev pub Encodes : List Part → ℕ → Registers → Type 0
+Encodes [] b t = Unit
+Encodes (p ∷ ps) b t = (value p b ≡ held (p .target) t) × Encodes ps b t
 
 encoded-lt : (ps : List Part) (t : Registers) (top : ℕ) → T (stacked top ps) → FitParts ps t → encoded ps t < 2 ^ top
 encoded-lt [] t top st fit = pow-pos top
@@ -53,9 +53,9 @@ regroup q g w l v e =
     ∙ sym (add-assoc (q * 2 ^ g * 2 ^ w * 2 ^ l) (v * 2 ^ l) e)
     ∙ ap (λ (x : ℕ). x + e) (sym (add-mul (q * 2 ^ g * 2 ^ w) v (2 ^ l)))
 
-says-from : (ps : List Part) (q : ℕ) (t : Registers) (top : ℕ) → T (stacked top ps) → FitParts ps t → Says ps (q * 2 ^ top + encoded ps t) t
-says-from [] q t top st fit = tt
-says-from (p ∷ ps) q t top st fit =
+encodes-from : (ps : List Part) (q : ℕ) (t : Registers) (top : ℕ) → T (stacked top ps) → FitParts ps t → Encodes ps (q * 2 ^ top + encoded ps t) t
+encodes-from [] q t top st fit = tt
+encodes-from (p ∷ ps) q t top st fit =
     let l = p .low in
     let w = p .width in
     let v = held (p .target) t in
@@ -70,18 +70,18 @@ says-from (p ∷ ps) q t top st fit =
     in (
       ap (λ (x : ℕ). x % 2 ^ w) (above-div l (q * 2 ^ top + (v * 2 ^ l + e)) ∙ ap (λ (x : ℕ). x / 2 ^ l) eq ∙ digits-div (q * 2 ^ g * 2 ^ w + v) el)
           ∙ digits-mod (q * 2 ^ g) (fit .0),
-      subst (λ (b : ℕ). Says ps b t) (sym eq) (says-from ps (q * 2 ^ g * 2 ^ w + v) t l rest (fit .1)),
+      subst (λ (b : ℕ). Encodes ps b t) (sym eq) (encodes-from ps (q * 2 ^ g * 2 ^ w + v) t l rest (fit .1)),
     )
 
 -- what is read back is what was written, and the open bits are those that were put in
-says-opened : (ps : List Part) (b : ℕ) (t : Registers) → Says ps b t → opened ps b ≡ encoded ps t
-says-opened [] b t h = refl
-says-opened (p ∷ ps) b t h = ap₂ (λ (x y : ℕ). x * 2 ^ (p .low) + y) (h .0) (says-opened ps b t (h .1))
+encodes-opened : (ps : List Part) (b : ℕ) (t : Registers) → Encodes ps b t → opened ps b ≡ encoded ps t
+encodes-opened [] b t h = refl
+encodes-opened (p ∷ ps) b t h = ap₂ (λ (x y : ℕ). x * 2 ^ (p .low) + y) (h .0) (encodes-opened ps b t (h .1))
 
-pub says-taken : (ps : List Part) (b : ℕ) (t r : Registers) → Says ps b t → taken ps b r ≡ aimed ps t r
-says-taken [] b t r h = refl
-says-taken (p ∷ ps) b t r h =
-    ap (λ (x : ℕ). taken ps b (putTo (p .target) x r)) (h .0) ∙ says-taken ps b t (putTo (p .target) (held (p .target) t) r) (h .1)
+pub encodes-taken : (ps : List Part) (b : ℕ) (t r : Registers) → Encodes ps b t → taken ps b r ≡ withParts ps t r
+encodes-taken [] b t r h = refl
+encodes-taken (p ∷ ps) b t r h =
+    ap (λ (x : ℕ). taken ps b (putTo (p .target) x r)) (h .0) ∙ encodes-taken ps b t (putTo (p .target) (held (p .target) t) r) (h .1)
 
 -- ---- the rows of the table
 
@@ -116,13 +116,13 @@ module _ (i : ℕ) (l : i < 21) (t : Registers) (fit : FitParts (rowNo i .parts)
   fixed-above : rowNo i .code ≡ rowNo i .code / 2 ^ topOf (rowNo i .parts) * 2 ^ topOf (rowNo i .parts)
   fixed-above = eqb→eq _ _ (below-at 21 fixedAbove all-fixed-above i l)
 
-  pub row-says : Says (rowNo i .parts) (rowByte (rowNo i) t) t
-  row-says =
-      subst (λ (c : ℕ). Says (rowNo i .parts) (c + encoded (rowNo i .parts) t) t) (sym fixed-above)
-      (says-from (rowNo i .parts) (rowNo i .code / 2 ^ topOf (rowNo i .parts)) t (topOf (rowNo i .parts)) in-order fit)
+  pub row-encodes : Encodes (rowNo i .parts) (rowByte (rowNo i) t) t
+  row-encodes =
+      subst (λ (c : ℕ). Encodes (rowNo i .parts) (c + encoded (rowNo i .parts) t) t) (sym fixed-above)
+      (encodes-from (rowNo i .parts) (rowNo i .code / 2 ^ topOf (rowNo i .parts)) t (topOf (rowNo i .parts)) in-order fit)
 
   pub row-takes : isOf (rowNo i) (rowByte (rowNo i) t) ≡ true
-  row-takes = eq-eqb _ _ (ap (λ (x : ℕ). rowNo i .code + x) (sym (says-opened (rowNo i .parts) (rowByte (rowNo i) t) t row-says)))
+  row-takes = eq-eqb _ _ (ap (λ (x : ℕ). rowNo i .code + x) (sym (encodes-opened (rowNo i .parts) (rowByte (rowNo i) t) t row-encodes)))
 
   pub row-byte : rowByte (rowNo i) t < 256
   row-byte =

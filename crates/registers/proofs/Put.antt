@@ -7,17 +7,17 @@ use lib.ListN.{getD, set, length, length-set}
 use lib.Seq.{ext-getD, getD-set-same, getD-set-other}
 use Rattle.registers.specs.declared.Registers.{Registers}
 use Rattle.registers.specs.Record.{within, values, ofValues, limits, put, allowedRegisters}
-use Rattle.registers.proofs.Tables.{listed, listed-at, listed-length}
+use Rattle.registers.proofs.Tables.{tabulated, tabulated-at, tabulated-length}
 use Rattle.registers.proofs.Within.{within-set}
 
 -- a list is its own elements
-listed-self : (l : List ℕ) (n : ℕ) → length l ≡ n → listed (λ (i : ℕ). getD l i 0) 0 n ≡ l
-listed-self l n e =
-    ext-getD 0 (listed (λ (i : ℕ). getD l i 0) 0 n) l (listed-length (λ (i : ℕ). getD l i 0) 0 n ∙ sym e)
-    (λ i h. listed-at (λ (i : ℕ). getD l i 0) n i (subst (λ (m : ℕ). i < m) (listed-length (λ (i : ℕ). getD l i 0) 0 n) h))
+tabulated-self : (l : List ℕ) (n : ℕ) → length l ≡ n → tabulated (λ (i : ℕ). getD l i 0) 0 n ≡ l
+tabulated-self l n e =
+    ext-getD 0 (tabulated (λ (i : ℕ). getD l i 0) 0 n) l (tabulated-length (λ (i : ℕ). getD l i 0) 0 n ∙ sym e)
+    (λ i h. tabulated-at (λ (i : ℕ). getD l i 0) n i (subst (λ (m : ℕ). i < m) (tabulated-length (λ (i : ℕ). getD l i 0) 0 n) h))
 
 pub values-ofValues : (l : List ℕ) → length l ≡ 29 → values (ofValues l) ≡ l
-values-ofValues l e = listed-self l 29 e
+values-ofValues l e = tabulated-self l 29 e
 
 pub values-put : (f n : ℕ) (r : Registers) → values (put f n r) ≡ set (values r) f n
 values-put f n r = values-ofValues (set (values r) f n) (length-set (values r) f n)

@@ -16,7 +16,7 @@ use Rattle.registers.specs.Places.{H}
 use Rattle.registers.specs.Record.{values}
 use Rattle.registers.specs.Table.{Target, register, bounded, selected, unheld, Part, part, Row, rows, noRow}
 use Rattle.registers.proofs.Below.{and-left, and-right}
-use Rattle.registers.proofs.Tables.{listed, listed-at}
+use Rattle.registers.proofs.Tables.{tabulated, tabulated-at}
 
 -- ---- over lists of parts, with the registers v as a list
 
@@ -181,8 +181,8 @@ low-bound k = up-to-at 7 partLows tt k
 
 -- ---- the row that sets a register
 
-pub row-for-at : (f : ℕ) → f < 29 → getD (listed rowFor 0 29) f 0 ≡ rowFor f
-row-for-at f h = listed-at rowFor 29 f h
+pub row-for-at : (f : ℕ) → f < 29 → getD (tabulated rowFor 0 29) f 0 ≡ rowFor f
+row-for-at f h = tabulated-at rowFor 29 f h
 
 -- past the last register no part sets anything
 module _ (f : ℕ) (past : 29 ≤ f) where

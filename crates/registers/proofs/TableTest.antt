@@ -13,7 +13,7 @@ use Rattle.registers.specs.Places.{GS0, GS3}
 use Rattle.registers.specs.Table.{Target, Part, Row, rows, noRow, matches, matchesAt, isOf, everyPage, value}
 use Rattle.registers.specs.Table.Target.{register, bounded, selected, unheld}
 use Rattle.registers.specs.Data.{widths, partsOf}
-use Rattle.registers.specs.Listed.{listed}
+use Rattle.registers.specs.Unreadable.{rowUnreadable}
 use Rattle.registers.proofs.Below.{allBelow, below-at, same, same-eq}
 
 -- One row at most
@@ -157,10 +157,10 @@ has-row f l = below-at 29 hasRow all-have f l
 
 -- the list of what can't be read has a register exactly where no row holds it whole
 abbrev rightlyListed : ℕ → Bool
-rightlyListed f = same (listed f) (not (hasRow f))
+rightlyListed f = same (rowUnreadable f) (not (hasRow f))
 
 all-listed : T (allBelow 29 rightlyListed)
 all-listed = tt
 
-pub listed-exactly : (f : ℕ) → f < 29 → listed f ≡ not (anyHolds f (partsOf rows))
-listed-exactly f l = same-eq (listed f) (not (hasRow f)) (below-at 29 rightlyListed all-listed f l)
+pub unreadable-exactly : (f : ℕ) → f < 29 → rowUnreadable f ≡ not (anyHolds f (partsOf rows))
+unreadable-exactly f l = same-eq (rowUnreadable f) (not (hasRow f)) (below-at 29 rightlyListed all-listed f l)

@@ -17,20 +17,20 @@ use Rattle.registers.specs.Data.{pages, codes, masks}
 use Rattle.registers.proofs.Below.{allBelow, below-at, same, same-eq}
 
 -- f at the n numbers from a on
-abbrev pub listed : (ℕ → ℕ) → ℕ → ℕ → List ℕ
-listed f a zero = []
-listed f a (suc n) = f a ∷ listed f (suc a) n
+abbrev pub tabulated : (ℕ → ℕ) → ℕ → ℕ → List ℕ
+tabulated f a zero = []
+tabulated f a (suc n) = f a ∷ tabulated f (suc a) n
 
-listed-from : (f : ℕ → ℕ) (a n k : ℕ) → k < n → getD (listed f a n) k 0 ≡ f (a + k)
-listed-from f a zero k h = absurd (not-suc-le-zero h)
-listed-from f a (suc n) zero h = rw add-zero
-listed-from f a (suc n) (suc k) h = rw (add-suc, ← suc-add) (listed-from f (suc a) n k (le-of-suc-le-suc h))
+tabulated-from : (f : ℕ → ℕ) (a n k : ℕ) → k < n → getD (tabulated f a n) k 0 ≡ f (a + k)
+tabulated-from f a zero k h = absurd (not-suc-le-zero h)
+tabulated-from f a (suc n) zero h = rw add-zero
+tabulated-from f a (suc n) (suc k) h = rw (add-suc, ← suc-add) (tabulated-from f (suc a) n k (le-of-suc-le-suc h))
 
-pub listed-at : (f : ℕ → ℕ) (n k : ℕ) → k < n → getD (listed f 0 n) k 0 ≡ f k
-listed-at f n k h = rw zero-add at (listed-from f 0 n k h)
+pub tabulated-at : (f : ℕ → ℕ) (n k : ℕ) → k < n → getD (tabulated f 0 n) k 0 ≡ f k
+tabulated-at f n k h = rw zero-add at (tabulated-from f 0 n k h)
 
-pub reversed-at : (b : ℕ) → b < 256 → getD (listed reversedOf 0 256) b 0 ≡ reversedOf b
-reversed-at b h = listed-at reversedOf 256 b h
+pub reversed-at : (b : ℕ) → b < 256 → getD (tabulated reversedOf 0 256) b 0 ≡ reversedOf b
+reversed-at b h = tabulated-at reversedOf 256 b h
 
 -- the masked byte is the code exactly at the row's bytes
 abbrev pub bitsAgree : ℕ → ℕ → Bool
@@ -60,6 +60,6 @@ found-later h b i l e = rw (rows-from h b i l, e) (omega arith)
 pub found-none : (h b i : ℕ) → i ≡ 21 → i + rowAmong h b (drop i rows) ≡ i
 found-none h b i e = rw e
 
-pub listed-length : (f : ℕ → ℕ) (a n : ℕ) → length (listed f a n) ≡ n
-listed-length f a zero = refl
-listed-length f a (suc n) = ap suc (listed-length f (suc a) n)
+pub tabulated-length : (f : ℕ → ℕ) (a n : ℕ) → length (tabulated f a n) ≡ n
+tabulated-length f a zero = refl
+tabulated-length f a (suc n) = ap suc (tabulated-length f (suc a) n)

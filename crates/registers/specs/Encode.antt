@@ -27,9 +27,9 @@ abbrev pub rowByte : Row → Registers → ℕ
 rowByte w t = w .code + encoded (w .parts) t
 
 -- registers r with the parts' fields as t has them
-abbrev pub aimed : List Part → Registers → Registers → Registers
-aimed [] t r = r
-aimed (p ∷ ps) t r = aimed ps t (putTo (p .target) (held (p .target) t) r)
+abbrev pub withParts : List Part → Registers → Registers → Registers
+withParts [] t r = r
+withParts (p ∷ ps) t r = withParts ps t (putTo (p .target) (held (p .target) t) r)
 
 -- ---- which row sets a register
 

@@ -3,7 +3,7 @@ pub mod Record
 pub mod Reversed
 pub mod Table
 pub mod Data
-pub mod Listed
+pub mod Unreadable
 pub mod State
 pub mod Refusals
 pub mod Encode

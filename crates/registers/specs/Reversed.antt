@@ -4,12 +4,12 @@ use Prim.Native.Nat.{ℕ, zero, suc, _+_, _*_, _/_, _%_, _-_, _^_}
 use lib.Dec.{eqb}
 
 -- the lowest n bits of b, bit k at 7 − k
-abbrev pub mirrored : ℕ → ℕ → ℕ
-mirrored zero b = 0
-mirrored (suc k) b = (b / 2 ^ k % 2) * 2 ^ (7 - k) + mirrored k b
+abbrev pub reversedBits : ℕ → ℕ → ℕ
+reversedBits zero b = 0
+reversedBits (suc k) b = (b / 2 ^ k % 2) * 2 ^ (7 - k) + reversedBits k b
 
 abbrev pub reversedOf : ℕ → ℕ
-reversedOf b = mirrored 8 b
+reversedOf b = reversedBits 8 b
 
 -- a byte in the order that DO asks for; in the same order twice it is itself again
 abbrev pub ordered : ℕ → ℕ → ℕ

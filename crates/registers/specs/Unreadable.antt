@@ -13,5 +13,5 @@ isAmong f [] = false
 isAmong f (g ∷ gs) = eqb f g || isAmong f gs
 
 -- register f has a row that can't be read, or none: refusal 8
-abbrev pub listed : ℕ → Bool
-listed f = isAmong f unreadable
+abbrev pub rowUnreadable : ℕ → Bool
+rowUnreadable f = isAmong f unreadable
