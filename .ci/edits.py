@@ -131,7 +131,7 @@ def stands_at(copy, refusal, names):
         return False
     definitions = list((copy / "specs").rglob("*.antt"))
     names = touched(copy, names, definitions if in_proof or path.suffix == ".rt" else definitions + [path])
-    return (path.parent.name if in_proof else at_line(path, refusal.line)) in names
+    return (path.parent.name.lstrip("+") if in_proof else at_line(path, refusal.line)) in names
 
 
 def judged(crate, edit, copy, log):
