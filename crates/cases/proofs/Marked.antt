@@ -8,7 +8,7 @@ use Rattle.cases.specs.Cited.{entryRefusal, eventRefusal, isAddressed, p
 use Rattle.cases.specs.Cited.{placeRefusal, glassRefusal, glassOf, numberOf, lineOf, readingFrom, readingOf, setTo, lineEvents, stream, compileOf}
 use Rattle.cases.specs.Start.{upon}
 use Rattle.cases.specs.Table.{eachPasses}
-use Rattle.compiler.proofs.Demand3.{text-demand-3}
+use Rattle.drawing.proofs.Demand3.{text-demand-3}
 use Rattle.cases.specs.Marked.{holds, marked, putEvents}
 
 pub all-marked : T (eachPasses holds marked)

@@ -9,7 +9,7 @@ use lib.ListN.{getD, length}
 use Rattle.registers.proofs.Below.{and-left, and-right}
 use Rattle.text.proofs.Finding.{same-equal}
 use Rattle.chip.proofs.Plays.{plays-good, plays-run}
-use Rattle.cases.specs.Cited.{Line, State, values, ofValues, Picture, pictureOf, plain, Demand3}
+use Rattle.cases.specs.Cited.{Line, State, values, ofValues, Picture, pictureOf, plainReading, Demand3}
 use Rattle.cases.specs.Cited.{Fit, isAcknowledged, refusalOf, stepOf}
 use Rattle.cases.specs.Cited.{before, played, Good, Plays, sameBytes}
 
@@ -26,7 +26,7 @@ abbrev samePicture : Picture → Picture → Bool
 samePicture p q = sameBytes (p .cells) (q .cells) && sameBytes (values (p .registers)) (values (q .registers))
 
 abbrev pub meets : List Line → List ℕ → State → Bool
-meets ls es s = allGood es s && samePicture (pictureOf (played es s)) (plain ls (pictureOf s))
+meets ls es s = allGood es s && samePicture (pictureOf (played es s)) (plainReading ls (pictureOf s))
 
 -- ---- where demand 3 holds, the test is passed
 

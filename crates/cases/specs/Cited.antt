@@ -17,10 +17,10 @@ pub use Rattle.text.specs.Text.{bytes, sameBytes}
 pub use Rattle.lists.specs.declared.Line.{Line}
 pub use Rattle.lists.specs.declared.Line.the-variants.{Fill}
 pub use Rattle.lists.specs.Lists.{Reading, faulty, lines}
+pub use Rattle.drawing.specs.Demand3.{Demand3, Draws}
+pub use Rattle.drawing.specs.Plain.{Picture, pictureOf, plainReading}
 pub use Rattle.compiler.specs.declared.answer.Numbers.{Numbers}
 pub use Rattle.compiler.specs.Compile.{Result, numbersOf, linesOf}
-pub use Rattle.compiler.specs.Demand3.{Demand3, Draws}
-pub use Rattle.compiler.specs.Plain.{Picture, pictureOf, plain}
 pub use Rattle.capture.specs.Replay.{Replay, refusedBy, refusedAt, replayed}
 pub use Rattle.glass.specs.declared.answer.Shown.{Shown}
 pub use Rattle.glass.specs.declared.answer.Cell.{Cell}
@@ -40,8 +40,8 @@ unfoldable pub use Rattle.chip.specs.Plays.{Plays}
 unfoldable pub use Rattle.text.specs.Decimal.{numberOf}
 unfoldable pub use Rattle.lists.specs.Line.{lineOf}
 unfoldable pub use Rattle.lists.specs.Lists.{readingFrom, readingOf}
-unfoldable pub use Rattle.compiler.specs.Plain.{filled, setTo}
-unfoldable pub use Rattle.compiler.specs.Stream.{lineEvents, stream}
+unfoldable pub use Rattle.drawing.specs.Plain.{filled, setTo}
+unfoldable pub use Rattle.drawing.specs.Stream.{lineEvents, stream}
 unfoldable pub use Rattle.compiler.specs.Compile.{compileOf}
 unfoldable pub use Rattle.glass.specs.Glass.{placeRefusal, glassRefusal, cellOf, glassOf}
 unfoldable pub use Rattle.capture_lines.specs.Line.{pinsOf}

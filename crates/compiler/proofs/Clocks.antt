@@ -3,7 +3,7 @@ use mathlib.Core.Bool.{Bool, true, false, cond}
 use mathlib.Core.List.{List, [], _∷_, _++_}
 use mathlib.Core.Path.{_≡_, refl, sym, ap, _∙_}
 use Prim.Native.Nat.{ℕ, zero, suc, _+_, _*_, _-_, _≤_, _<_}
-use native.Mathlib.Nat.{suc-mul, zero-mul, zero-add}
+use native.Mathlib.Nat.{suc-mul, zero-mul, zero-add, mul-le-mul}
 use native.Mathlib.Omega.{arith}
 use borrow.Author.Tests.{lt-ltb}
 use lib.Dec.{eqb, ltb}
@@ -11,14 +11,23 @@ use lib.ListN.{length, replicate}
 use Rattle.registers.specs.declared.Registers.{Registers}
 use Rattle.registers.specs.Reversed.{ordered}
 use Rattle.chip.specs.Plays.{writeAddress}
-use Rattle.compiler.specs.Stream.{across, down, firstX, fill, byteEvents}
+use Rattle.drawing.specs.Stream.{across, down, firstX, fill, byteEvents}
+use Rattle.drawing.proofs.FillPlays.{first-x-limit}
+use Rattle.drawing.proofs.RunPlays.{ordered-byte}
 use Rattle.compiler.specs.Writes.{runEvents, runsFrom, fillCount}
-use Rattle.compiler.proofs.RunPlays.{ordered-byte}
-use Rattle.compiler.proofs.Writes.{across-runs, down-runs, across-length, down-length, first-x-limit}
+use Rattle.compiler.proofs.Writes.{across-runs, down-runs, across-length, down-length}
 
 pub bytes-append : (xs ys : List ℕ) → byteEvents (xs ++ ys) ≡ byteEvents xs + byteEvents ys
 bytes-append [] ys = sym (zero-add (byteEvents ys))
 bytes-append (x ∷ xs) ys = omega (arith, bytes-append xs ys)
+
+pub bytes-limit : (es : List ℕ) → byteEvents es ≤ length es
+bytes-limit [] = omega arith
+bytes-limit (e ∷ es) = go (ltb e 256) (bytes-limit es)
+  where
+    go : (t : Bool) → byteEvents es ≤ length es → cond t 1 0 + byteEvents es ≤ suc (length es)
+    go true h = omega arith
+    go false h = omega arith
 
 pub byte-counts : (e : ℕ) → e < 256 → _≡_ {A = ℕ} (cond (ltb e 256) 1 0) 1
 byte-counts e h = ap {B = ℕ} (λ (t : Bool). cond t 1 0) (lt-ltb e 256 h)
@@ -87,7 +96,27 @@ module _ (pins : ℕ) (q : Registers) (c0 c1 b0 b1 n : ℕ) where
   pub fill-bytes :
       pins ≤ 3 → n < 256 → c0 ≤ c1 → c1 ≤ 100 → b0 ≤ b1 → b1 ≤ 16 → byteEvents (fill pins q c0 c1 b0 b1 n) ≡ fillCount 8 q c0 c1 b0 b1
   fill-bytes hp hn hc hc1 hb hb1 =
-      let limit = first-x-limit (eqb (q .mx) 1) c0 c1 hc hc1 in
+      let limit = first-x-limit (eqb (q .mx) 1) c0 c1 hc hc1 .0 in
       either byteEvents (eqb (q .v) 1) _ _ _ _
       (down-bytes pins q b0 (b1 - b0 + 1) n (firstX (q .mx) c0 c1) (c1 - c0 + 1) hp hn (omega arith) limit)
       (across-bytes pins q (firstX (q .mx) c0 c1) (c1 - c0 + 1) n b0 (b1 - b0 + 1) hp hn (omega arith) (omega arith))
+
+-- no fill takes more events than one of the whole glass by columns
+pub fill-limit : (q : Registers) (c0 c1 b0 b1 : ℕ) → c1 ≤ 100 → b1 ≤ 16 → fillCount 10 q c0 c1 b0 b1 ≤ 2727
+fill-limit q c0 c1 b0 b1 hc hb = go (eqb (q .v) 1)
+  where
+    columns : c1 - c0 + 1 ≤ 101
+    columns = omega arith
+
+    banks : b1 - b0 + 1 ≤ 17
+    banks = omega arith
+
+    down-limit : (c1 - c0 + 1) * (10 + (b1 - b0 + 1)) ≤ 101 * 27
+    down-limit = let each : 10 + (b1 - b0 + 1) ≤ 27 = omega arith in mul-le-mul columns each
+
+    across-limit : (b1 - b0 + 1) * (10 + (c1 - c0 + 1)) ≤ 17 * 111
+    across-limit = let each : 10 + (c1 - c0 + 1) ≤ 111 = omega arith in mul-le-mul banks each
+
+    go : (t : Bool) → cond t ((c1 - c0 + 1) * (10 + (b1 - b0 + 1))) ((b1 - b0 + 1) * (10 + (c1 - c0 + 1))) ≤ 2727
+    go true = down-limit
+    go false = omega (arith, across-limit)

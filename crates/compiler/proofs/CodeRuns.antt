@@ -10,11 +10,12 @@ use lib.ListN.{length, replicate}
 use Rattle.registers.specs.declared.Registers.{Registers}
 use Rattle.chip.specs.Plays.{writeAddress}
 use Rattle.lists.specs.Syntax.{ValidFill}
-use Rattle.compiler.specs.declared.runs.Counts.{Counts}
+use Rattle.drawing.specs.Stream.{across, down, firstX, fill}
+use Rattle.drawing.proofs.FillPlays.{first-x-limit}
+use Rattle.compiler.specs.declared.line.Counts.{Counts}
 use Rattle.compiler.specs.declared.runs.Runs.{Runs}
-use Rattle.compiler.specs.Stream.{across, down, firstX, fill}
 use Rattle.compiler.specs.Writes.{Wrote, RunsFit, runEvents, runsFrom, runsEvents, byColumns, byBanks, runsOf, counts, fillCount}
-use Rattle.compiler.proofs.Writes.{wrote-then, wrote-none, run-length, runs-length, across-runs, down-runs, first-x-limit}
+use Rattle.compiler.proofs.Writes.{wrote-then, wrote-none, run-length, runs-length, across-runs, down-runs}
 
 less-one : (n : ℕ) → suc n - 1 ≡ n
 less-one n = omega arith
@@ -116,7 +117,7 @@ module _ (q : Registers) (c0 c1 b0 b1 n : ℕ) where
   runs-fit s = go (eqb (q .v) 1)
     where
       x-limit : firstX (q .mx) c0 c1 ≤ 100
-      x-limit = omega (arith, first-x-limit (eqb (q .mx) 1) c0 c1 (s .columns) (s .last-column))
+      x-limit = first-x-limit (eqb (q .mx) 1) c0 c1 (s .columns) (s .last-column) .1
 
       go : (t : Bool) → RunsFit (cond t (byColumns q c0 c1 b0 b1 n) (byBanks q c0 c1 b0 b1 n))
       go true = record { count = omega arith; bytes = omega arith; x = x-limit; y = omega arith; dx = omega arith; dy = omega arith }

@@ -13,12 +13,12 @@ use Rattle.registers.specs.declared.Chip.{Chip}
 use Rattle.registers.specs.Record.{allowed, blank}
 use Rattle.lists.specs.Lists.{Reading, faulty, lines, readingFrom, readingOf, newlines}
 use Rattle.lists.proofs.Readings.{reading-refused}
+use Rattle.drawing.specs.Stream.{stream, clocksOf}
 use Rattle.compiler.specs.declared.answer.Compiled.{Compiled}
 use Rattle.compiler.specs.declared.answer.Compiled.the-variants.{Done, Refused, BadLine, Short}
 use Rattle.compiler.specs.Compile.{Result, result, intoOutput, fromReading, compileOf, numbersOf}
-use Rattle.compiler.specs.Demand3.{Promise}
-use Rattle.compiler.specs.Stream.{stream, clocksOf}
-use Rattle.compiler.specs.When.{When, Readable, Streams}
+use Rattle.compiler.specs.Promise.{Promise}
+use Rattle.compiler.specs.When.{When, PassesEntry, Streams}
 use Rattle.compiler.proofs.Promise.{compile-draws}
 
 -- a bad line's number is 6, 7 or 8
@@ -32,43 +32,43 @@ module _ (c : Chip) (text out : List ℕ) where
   demand-3-promised = compile-draws c text out (compileOf c text out .answer) (compileOf c text out .out) refl
 
   -- what is known of the answer and the output together
-  data Verdict : Result → Type 0 where
-    refused : (r : Compiled) → When c text out r → Verdict (result r out)
-    done : (n k : ℕ) (es : List ℕ) → When c text out (Done n k) → Verdict (result (Done n k) (sets out 0 es))
+  data AnswerWhen : Result → Type 0 where
+    refused : (r : Compiled) → When c text out r → AnswerWhen (result r out)
+    done : (n k : ℕ) (es : List ℕ) → When c text out (Done n k) → AnswerWhen (result (Done n k) (sets out 0 es))
 
-  into : (es : List ℕ) → Readable c text → Streams c text es → Verdict (intoOutput es out)
+  into : (es : List ℕ) → PassesEntry c text → Streams c text es → AnswerWhen (intoOutput es out)
   into es ok streams = go (leb (length es) (length out)) refl
     where
       go :
           (t : Bool) → leb (length es) (length out) ≡ t
-          → Verdict (cond t (result (Done (length es) (clocksOf es)) (sets out 0 es)) (result (Short (length es)) out))
+          → AnswerWhen (cond t (result (Done (length es) (clocksOf es)) (sets out 0 es)) (result (Short (length es)) out))
       go true e = done (length es) (clocksOf es) es (ok, (es, streams, refl, refl, leb-true (length es) (length out) e))
       go false e = refused (Short (length es)) (ok, (es, streams, refl, leb-false (length es) (length out) e))
 
-  from : (r : Reading) → readingOf text ≡ r → Readable c text → Verdict (fromReading (c .pins) (blank (c .registers)) r out)
+  from : (r : Reading) → readingOf text ≡ r → PassesEntry c text → AnswerWhen (fromReading (c .pins) (blank (c .registers)) r out)
   from (faulty k i) e ok = refused (BadLine k i) (ok, e)
   from (lines ls) e ok = into (stream (c .pins) ls (blank (c .registers))) ok (record { list = ls; reads = e; events = refl })
 
-  verdict : Verdict (compileOf c text out)
+  answer-when : AnswerWhen (compileOf c text out)
   unfolding compileOf
-  verdict = go (allowed c) refl (ltb 4096 (newlines text)) refl
+  answer-when = go (allowed c) refl (ltb 4096 (newlines text)) refl
     where
       go :
           (t : Bool) → allowed c ≡ t → (u : Bool) → ltb 4096 (newlines text) ≡ u
-          → Verdict (cond t (cond u (result (Refused 9) out) (fromReading (c .pins) (blank (c .registers)) (readingOf text) out)) (result (Refused 2) out))
+          → AnswerWhen (cond t (cond u (result (Refused 9) out) (fromReading (c .pins) (blank (c .registers)) (readingOf text) out)) (result (Refused 2) out))
       go false e u d = refused (Refused 2) (inl (refl, e))
       go true e true d = refused (Refused 9) (inr (refl, e, ltb-true 4096 (newlines text) d))
       go true e false d = from (readingOf text) refl (record { allowed-record = e; not-too-long = ltb-false 4096 (newlines text) d })
 
-  told : (r : Result) → Verdict r → When c text out (r .answer)
+  told : (r : Result) → AnswerWhen r → When c text out (r .answer)
   told _ (refused r w) = w
   told _ (done n k es w) = w
 
-  from-reading : Readable c text → compileOf c text out ≡ fromReading (c .pins) (blank (c .registers)) (readingOf text) out
+  from-reading : PassesEntry c text → compileOf c text out ≡ fromReading (c .pins) (blank (c .registers)) (readingOf text) out
   unfolding compileOf
   from-reading ok = rw (ok .allowed-record, le-ltb 4096 (newlines text) (ok .not-too-long))
 
-  from-stream : (es : List ℕ) → Readable c text → Streams c text es → compileOf c text out ≡ intoOutput es out
+  from-stream : (es : List ℕ) → PassesEntry c text → Streams c text es → compileOf c text out ≡ intoOutput es out
   from-stream es ok streams =
       from-reading ok
       ∙ ap (λ (r : Reading). fromReading (c .pins) (blank (c .registers)) r out) (streams .reads)
@@ -88,18 +88,18 @@ module _ (c : Chip) (text out : List ℕ) where
 
   -- each answer comes exactly when document 01's table says
   pub exactly-when : (r : Compiled) → (compileOf c text out .answer ≡ r) ↔ When c text out r
-  exactly-when r = (λ e. subst (When c text out) e (told (compileOf c text out) verdict), so r)
+  exactly-when r = (λ e. subst (When c text out) e (told (compileOf c text out) answer-when), so r)
 
   -- the length is that of the stream, the clocks are nine for each of its bytes, and the output begins with it and is else as it was
   pub accepted :
-      (es : List ℕ) → Readable c text → Streams c text es → length es ≤ length out
+      (es : List ℕ) → PassesEntry c text → Streams c text es → length es ≤ length out
       → compileOf c text out ≡ result (Done (length es) (clocksOf es)) (sets out 0 es)
   accepted es ok streams room = from-stream es ok streams ∙ rw (le-leb (length es) (length out) room)
 
   -- in document 01's numbers: 2 comes exactly where the record is not allowed
   pub two-exactly : (numbersOf (compileOf c text out .answer) .number ≡ 2) ↔ (allowed c ≡ false)
   two-exactly = (
-    λ e. there (compileOf c text out .answer) (told (compileOf c text out) verdict) e,
+    λ e. there (compileOf c text out .answer) (told (compileOf c text out) answer-when) e,
     λ h. ap (λ (r : Compiled). numbersOf r .number) (so (Refused 2) (inl (refl, h))),
   )
     where
@@ -112,9 +112,9 @@ module _ (c : Chip) (text out : List ℕ) where
 
   -- a refusal changes nothing
   pub refusal-keeps : (r : Compiled) → compileOf c text out .answer ≡ r → ((n k : ℕ) → r ≡ Done n k → ⊥) → compileOf c text out .out ≡ out
-  refusal-keeps r e not-done = go (compileOf c text out) verdict e
+  refusal-keeps r e not-done = go (compileOf c text out) answer-when e
     where
-      go : (x : Result) → Verdict x → x .answer ≡ r → x .out ≡ out
+      go : (x : Result) → AnswerWhen x → x .answer ≡ r → x .out ≡ out
       go _ (refused q w) d = refl
       go _ (done n k es w) d = absurd (not-done n k (sym d))
 

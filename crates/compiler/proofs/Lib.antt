@@ -1,15 +1,9 @@
 pub mod Clocks
-pub mod CodePasses
 pub mod CodeRuns
-pub mod Demand3
-pub mod FillPlays
-pub mod Fits
+pub mod CodeWays
 pub mod Laws
 pub mod Lines
 pub mod Promise
-pub mod RunPlays
-pub mod SetPlays
-pub mod SetRows
 pub mod Settings
 pub mod Tracked
 pub mod Writes

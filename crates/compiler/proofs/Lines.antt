@@ -11,18 +11,19 @@ use Rattle.chip.specs.Plays.{writeAddress, singles, message, Bytes}
 use Rattle.lists.specs.declared.Line.{Line}
 use Rattle.lists.specs.declared.Line.the-variants.{Fill, Set}
 use Rattle.lists.specs.Syntax.{ValidFill, Valid}
-use Rattle.compiler.specs.Plain.{setTo, registersAfter}
-use Rattle.compiler.specs.Stream.{fill, setCommands, lineEvents, byteEvents}
-use Rattle.compiler.specs.Writes.{Wrote, Tracked, fillCount, setLength}
-use Rattle.compiler.proofs.Clocks.{fill-length, fill-bytes, byte-counts}
+use Rattle.drawing.specs.Plain.{setTo, registersAfter}
+use Rattle.drawing.specs.Stream.{fill, setCommands, lineEvents, byteEvents}
+use Rattle.drawing.proofs.Fits.{LineFits, line-fits}
+use Rattle.compiler.specs.declared.line.Counts.{Counts}
+use Rattle.compiler.specs.Writes.{Wrote, Tracked, counts, countsOf, fillCount, setLength}
+use Rattle.compiler.proofs.Clocks.{byte-counts, fill-length, fill-bytes, fill-limit}
 use Rattle.compiler.proofs.Writes.{wrote-then, wrote-none}
-use Rattle.compiler.proofs.Fits.{LineFits, line-fits}
-use Rattle.compiler.proofs.Settings.{set-length}
+use Rattle.compiler.proofs.Settings.{set-length, set-length-bound}
 use Rattle.compiler.proofs.Tracked.{tracked-bytes}
 
 -- ---- command bytes
 
-pub singles-next : (bs : List ℕ) (n : ℕ) → n < length bs → singles (drop n bs) [] ≡ 128 ∷ getD bs n 0 ∷ singles (drop (n + 1) bs) []
+singles-next : (bs : List ℕ) (n : ℕ) → n < length bs → singles (drop n bs) [] ≡ 128 ∷ getD bs n 0 ∷ singles (drop (n + 1) bs) []
 singles-next bs n h = ap (λ (l : List ℕ). singles l []) (drop-next bs n h)
 
 singles-none : (bs : List ℕ) (n : ℕ) → length bs ≤ n → singles (drop n bs) [] ≡ []
@@ -60,15 +61,13 @@ message-wrote {l} {m} {o} {r} {i} {j} {q} {k} pins a bs cs ha hb started told st
     ∙ ap (λ (z : List ℕ). message pins z) hb)
     (wrote-then started (wrote-then told stopped))
 
--- the first n of the bytes are the commands
-pub said-length : (n : ℕ) (bs cs : List ℕ) → take n bs ≡ cs → n ≤ length bs → (n ≡ length (take n bs)) × (n ≡ length cs)
-said-length n bs cs e h =
-    let here : n ≡ length (take n bs) = omega (arith, length-take n bs) in
-    (here, here ∙ ap length e)
+-- the first n of the bytes bs are the commands cs
+module _ (n : ℕ) (bs cs : List ℕ) (said : (take n bs ≡ cs) × (n ≤ length bs)) where
+  pub said-length : (n ≡ length (take n bs)) × (n ≡ length cs)
+  said-length = let here : n ≡ length (take n bs) = omega (arith, said .1, length-take n bs) in (here, here ∙ ap length (said .0))
 
-pub said-next :
-    {l m : List ℕ} {i j : ℕ} (n : ℕ) (bs cs : List ℕ) → take n bs ≡ cs → n ≤ length bs → Wrote l i (singles (take n bs) []) m j → j ≡ i + 2 * length cs
-said-next n bs cs e h w = omega (arith, w .next, singles-length (take n bs) [], said-length n bs cs e h)
+  pub said-next : {l m : List ℕ} {i j : ℕ} → Wrote l i (singles (take n bs) []) m j → j ≡ i + 2 * length cs
+  said-next w = omega (arith, w .next, singles-length (take n bs) [], said-length)
 
 -- ---- the registers after a line
 
@@ -87,13 +86,13 @@ module _ (l : Line) (s : Valid l) where
   valid-fill c0 c1 b0 b1 n e = subst Valid e s
 
 module _ (pins : ℕ) (l : Line) (q : Registers) where
-  pub fill-told : (c0 c1 b0 b1 n : ℕ) → l ≡ Fill c0 c1 b0 b1 n → lineEvents pins l q ≡ fill pins q c0 c1 b0 b1 n
+  pub fill-line-events : (c0 c1 b0 b1 n : ℕ) → l ≡ Fill c0 c1 b0 b1 n → lineEvents pins l q ≡ fill pins q c0 c1 b0 b1 n
   unfolding lineEvents
-  fill-told c0 c1 b0 b1 n e = ap (λ (x : Line). lineEvents pins x q) e
+  fill-line-events c0 c1 b0 b1 n e = ap (λ (x : Line). lineEvents pins x q) e
 
-  pub set-told : (f n : ℕ) (t : Registers) → l ≡ Set f n → t ≡ setTo f n q → lineEvents pins l q ≡ message pins (setCommands f t)
+  pub set-line-events : (f n : ℕ) (t : Registers) → l ≡ Set f n → t ≡ setTo f n q → lineEvents pins l q ≡ message pins (setCommands f t)
   unfolding lineEvents
-  set-told f n t e h = ap (λ (x : Line). lineEvents pins x q) e ∙ ap (λ (x : Registers). message pins (setCommands f x)) (sym h)
+  set-line-events f n t e h = ap (λ (x : Line). lineEvents pins x q) e ∙ ap (λ (x : Registers). message pins (setCommands f x)) (sym h)
 
 -- ---- how many events and bytes
 
@@ -102,12 +101,12 @@ message-length pins bs = omega (arith, singles-length bs (257 ∷ []))
 
 module _ (pins : ℕ) (l : Line) (q : Registers) where
   pub set-room : (f n : ℕ) (t : Registers) → l ≡ Set f n → t ≡ setTo f n q → length (lineEvents pins l q) ≡ 3 + 2 * length (setCommands f t)
-  set-room f n t e h = ap length (set-told pins l q f n t e h) ∙ message-length pins (setCommands f t)
+  set-room f n t e h = ap length (set-line-events pins l q f n t e h) ∙ message-length pins (setCommands f t)
 
-  pub fill-events : (c0 c1 b0 b1 n x : ℕ) → l ≡ Fill c0 c1 b0 b1 n → x ≡ fillCount 10 q c0 c1 b0 b1 → x ≡ length (lineEvents pins l q)
-  fill-events c0 c1 b0 b1 n x e h = h ∙ sym (ap length (fill-told pins l q c0 c1 b0 b1 n e) ∙ fill-length pins q c0 c1 b0 b1 n)
+  fill-events : (c0 c1 b0 b1 n x : ℕ) → l ≡ Fill c0 c1 b0 b1 n → x ≡ fillCount 10 q c0 c1 b0 b1 → x ≡ length (lineEvents pins l q)
+  fill-events c0 c1 b0 b1 n x e h = h ∙ sym (ap length (fill-line-events pins l q c0 c1 b0 b1 n e) ∙ fill-length pins q c0 c1 b0 b1 n)
 
-  pub set-events : (f n x : ℕ) → l ≡ Set f n → x ≡ setLength f → x * 2 + 3 ≡ length (lineEvents pins l q)
+  set-events : (f n x : ℕ) → l ≡ Set f n → x ≡ setLength f → x * 2 + 3 ≡ length (lineEvents pins l q)
   set-events f n x e h =
       omega (
         arith,
@@ -116,32 +115,54 @@ module _ (pins : ℕ) (l : Line) (q : Registers) where
         set-length f (setTo f n q),
       )
 
-  pub fill-byte-events :
+  fill-byte-events :
       (c0 c1 b0 b1 n x : ℕ) → Valid l → pins ≤ 3 → l ≡ Fill c0 c1 b0 b1 n → x ≡ fillCount 8 q c0 c1 b0 b1 → x ≡ byteEvents (lineEvents pins l q)
   fill-byte-events c0 c1 b0 b1 n x s hp e h =
       let cells = valid-fill l s c0 c1 b0 b1 n e in
       h
-      ∙ sym (ap byteEvents (fill-told pins l q c0 c1 b0 b1 n e)
+      ∙ sym (ap byteEvents (fill-line-events pins l q c0 c1 b0 b1 n e)
       ∙ fill-bytes pins q c0 c1 b0 b1 n hp (omega (arith, cells .byte)) (cells .columns) (cells .last-column) (cells .banks) (cells .last-bank))
 
-  pub set-byte-events : (f n x : ℕ) → Valid l → Tracked q → pins ≤ 3 → l ≡ Set f n → x ≡ setLength f → x * 2 + 1 ≡ byteEvents (lineEvents pins l q)
+  set-byte-events : (f n x : ℕ) → Valid l → Tracked q → pins ≤ 3 → l ≡ Set f n → x ≡ setLength f → x * 2 + 1 ≡ byteEvents (lineEvents pins l q)
   set-byte-events f n x s tracked hp e h =
       let t = setTo f n q in
       omega (
         arith,
         h,
-        ap byteEvents (set-told pins l q f n t e refl),
+        ap byteEvents (set-line-events pins l q f n t e refl),
         set-length f t,
         byte-counts (writeAddress pins) (omega arith),
         singles-bytes (setCommands f t) (257 ∷ []) (tracked-bytes f n q (subst LineFits e (line-fits l s)) tracked),
       )
 
+module _ (pins : ℕ) (l : Line) (q : Registers) (s : Valid l) (hp : pins ≤ 3) where
+  pub fill-line-counts :
+      (c0 c1 b0 b1 n : ℕ) → l ≡ Fill c0 c1 b0 b1 n → {k : Counts} → k ≡ counts (fillCount 10 q c0 c1 b0 b1) (fillCount 8 q c0 c1 b0 b1)
+      → k ≡ countsOf (lineEvents pins l q)
+  fill-line-counts c0 c1 b0 b1 n e h =
+      h
+      ∙ ap (λ (z : ℕ). counts z (fillCount 8 q c0 c1 b0 b1)) (fill-events pins l q c0 c1 b0 b1 n _ e refl)
+      ∙ ap (λ (z : ℕ). counts (length (lineEvents pins l q)) z) (fill-byte-events pins l q c0 c1 b0 b1 n _ s hp e refl)
+
+  pub set-line-counts :
+      Tracked q → (f n : ℕ) → l ≡ Set f n → {k : ℕ} → k ≡ setLength f → counts (k * 2 + 3) (k * 2 + 1) ≡ countsOf (lineEvents pins l q)
+  set-line-counts tracked f n e {k} h =
+      ap (λ (z : ℕ). counts z (k * 2 + 1)) (set-events pins l q f n k e h)
+      ∙ ap (λ (z : ℕ). counts (length (lineEvents pins l q)) z) (set-byte-events pins l q f n k s tracked hp e h)
+
+-- no line takes more events than a fill of the whole glass by columns
+pub line-limit : (pins : ℕ) (l : Line) (q : Registers) → Valid l → length (lineEvents pins l q) ≤ 2727
+unfolding Valid lineEvents
+line-limit pins (Fill c0 c1 b0 b1 n) q s = omega (arith, fill-length pins q c0 c1 b0 b1 n, fill-limit q c0 c1 b0 b1 (s .last-column) (s .last-bank))
+line-limit pins (Set f n) q s =
+    omega (arith, set-room pins (Set f n) q f n (setTo f n q) refl refl, set-length f (setTo f n q), set-length-bound f)
+
 -- ---- a line's events, written
 
 module _ {o m : List ℕ} {i j : ℕ} (pins : ℕ) (l : Line) (q : Registers) where
   pub fill-line-wrote : (c0 c1 b0 b1 n : ℕ) → l ≡ Fill c0 c1 b0 b1 n → Wrote o i (fill pins q c0 c1 b0 b1 n) m j → Wrote o i (lineEvents pins l q) m j
-  fill-line-wrote c0 c1 b0 b1 n e w = subst (λ (es : List ℕ). Wrote o i es m j) (sym (fill-told pins l q c0 c1 b0 b1 n e)) w
+  fill-line-wrote c0 c1 b0 b1 n e w = subst (λ (es : List ℕ). Wrote o i es m j) (sym (fill-line-events pins l q c0 c1 b0 b1 n e)) w
 
   pub set-line-wrote :
       (f n : ℕ) (t : Registers) → l ≡ Set f n → t ≡ setTo f n q → Wrote o i (message pins (setCommands f t)) m j → Wrote o i (lineEvents pins l q) m j
-  set-line-wrote f n t e h w = subst (λ (es : List ℕ). Wrote o i es m j) (sym (set-told pins l q f n t e h)) w
+  set-line-wrote f n t e h w = subst (λ (es : List ℕ). Wrote o i es m j) (sym (set-line-events pins l q f n t e h)) w

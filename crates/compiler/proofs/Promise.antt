@@ -13,12 +13,13 @@ use Rattle.registers.specs.Record.{allowed, blank}
 use Rattle.registers.specs.State.{state}
 use Rattle.lists.specs.declared.Line.{Line}
 use Rattle.lists.specs.Lists.{Reading, faulty, lines, readingOf, newlines}
+use Rattle.drawing.specs.Demand3.{Demand3, Draws}
+use Rattle.drawing.specs.Stream.{stream, clocksOf}
+use Rattle.drawing.proofs.Demand3.{text-demand-3}
 use Rattle.compiler.specs.declared.answer.Compiled.{Compiled}
 use Rattle.compiler.specs.declared.answer.Compiled.the-variants.{Done, Refused, BadLine, Short}
 use Rattle.compiler.specs.Compile.{Result, result, fromReading, compileOf}
-use Rattle.compiler.specs.Demand3.{Demand3, Draws, Promise}
-use Rattle.compiler.specs.Stream.{stream, clocksOf}
-use Rattle.compiler.proofs.Demand3.{text-demand-3}
+use Rattle.compiler.specs.Promise.{Promise}
 
 done-refused : (n k j : ℕ) → Done n k ≡ Refused j → ⊥
 done-refused n k j e = let z : _≡_ {A = ℕ} 0 1 = cc in omega arith

@@ -1,29 +1,25 @@
 -- What a set does, place by place and row by row.
 use mathlib.Core.Bool.{Bool, true, false, cond}
 use mathlib.Core.List.{[], _∷_, _++_}
-use mathlib.Core.Path.{_≡_, refl, sym, ap, _∙_, subst}
-use Prim.Native.Nat.{ℕ, _+_, _-_, _≤_, _<_}
+use mathlib.Core.Path.{_≡_, refl, sym, ap, _∙_}
+use Prim.Native.Nat.{ℕ, _+_, _-_, _≤_}
 use native.Mathlib.Decide.{ℕ-discrete}
 use native.Mathlib.Omega.{arith}
-use borrow.Author.Tests.{leb-true, eq-eqb, ne-eqb}
-use lib.Dec.{T, eqb, leb, eqb→eq, leb→le}
+use borrow.Author.Tests.{eq-eqb, ne-eqb}
+use lib.Dec.{eqb}
 use lib.ListN.{getD, length, List·getD-map}
 use Rattle.registers.specs.declared.Registers.{Registers}
 use Rattle.registers.specs.Data.{pages}
 use Rattle.registers.specs.Encode.{rowByte, rowFor, isGrey}
-use Rattle.registers.specs.Places.{GR, GS0, GS3}
+use Rattle.registers.specs.Places.{GR, GS0}
 use Rattle.registers.specs.Record.{put}
 use Rattle.registers.specs.Table.{Row, rows, noRow}
-use Rattle.registers.proofs.Below.{allBelow, below-at, and-right}
-use Rattle.registers.proofs.Within.{both-left}
-use Rattle.compiler.specs.Plain.{setTo}
-use Rattle.compiler.specs.Stream.{pageOf, leave, enter, rowBytes, setCommands}
+use Rattle.drawing.specs.Plain.{setTo}
+use Rattle.drawing.specs.Stream.{pageOf, leave, enter, rowBytes, setCommands}
+use Rattle.drawing.proofs.SetPlays.{grey-commands}
 use Rattle.compiler.specs.Writes.{setLength}
 
 -- ---- the registers after a set
-
-pub grey-from : (f : ℕ) → isGrey f ≡ true → GS0 ≤ f
-grey-from f g = leb-true GS0 f (both-left (leb GS0 f) (leb f GS3) g)
 
 module _ (f n : ℕ) (r : Registers) where
   -- q is what selecting the register left
@@ -40,26 +36,13 @@ module _ (f n : ℕ) (r : Registers) where
 pub page-at : (x i : ℕ) → x ≡ getD pages i 0 → x ≡ pageOf i
 page-at x i h = h ∙ List·getD-map (λ (w : Row). w .page) rows i noRow
 
-grey-rows : T (allBelow 29 (λ f. cond (isGrey f) (eqb (rowFor f) 17) true))
-grey-rows = tt
-
-grey-row : (f : ℕ) → f < 29 → isGrey f ≡ true → rowFor f ≡ 17
-grey-row f h g =
-    eqb→eq (rowFor f) 17
-    (subst (λ (b : Bool). T (cond b (eqb (rowFor f) 17) true)) g
-    (below-at 29 (λ f. cond (isGrey f) (eqb (rowFor f) 17) true) grey-rows f h))
-
-pub grey-commands :
+pub grey-said :
     (f s l : ℕ) (t : Registers) → isGrey f ≡ true → s ≡ rowByte (getD rows 16 noRow) t → l ≡ rowByte (getD rows 17 noRow) t
     → 1 ∷ 11 ∷ s ∷ l ∷ 1 ∷ [] ≡ setCommands f t
-grey-commands f s l t g e d =
+grey-said f s l t g e d =
     ap (λ (n : ℕ). 1 ∷ 11 ∷ n ∷ l ∷ 1 ∷ []) e
     ∙ ap (λ (n : ℕ). 1 ∷ 11 ∷ rowByte (getD rows 16 noRow) t ∷ n ∷ 1 ∷ []) d
-    ∙ sym (ap (λ (b : Bool). 1 ∷ rowBytes (cond b (16 ∷ rowFor f ∷ []) (rowFor f ∷ [])) t) g
-    ∙ ap (λ (i : ℕ). 1 ∷ rowBytes (16 ∷ i ∷ []) t) (grey-row f (omega (arith, below)) g))
-  where
-    below : f ≤ 24
-    below = leb→le f 24 (and-right (leb GS0 f) (leb f 24) (subst T (sym g) tt))
+    ∙ sym (grey-commands f g t)
 
 module _ (f p b : ℕ) (t : Registers) (g : isGrey f ≡ false) (i : ℕ) (row : i ≡ rowFor f) (page : p ≡ pageOf i) (byte : b ≡ rowByte (getD rows i noRow) t) where
   in-row : 1 ∷ enter p ++ b ∷ leave p ≡ setCommands f t
@@ -69,11 +52,11 @@ module _ (f p b : ℕ) (t : Registers) (g : isGrey f ≡ false) (i : ℕ) (row :
       ∙ ap (λ (j : ℕ). 1 ∷ rowBytes (j ∷ []) t) row
       ∙ sym (ap (λ (b : Bool). 1 ∷ rowBytes (cond b (16 ∷ rowFor f ∷ []) (rowFor f ∷ [])) t) g)
 
-  pub page-0-commands : p ≡ 0 → 1 ∷ b ∷ [] ≡ setCommands f t
-  page-0-commands e = sym (ap (λ (q : ℕ). 1 ∷ enter q ++ b ∷ leave q) e) ∙ in-row
+  pub page-0-said : p ≡ 0 → 1 ∷ b ∷ [] ≡ setCommands f t
+  page-0-said e = sym (ap (λ (q : ℕ). 1 ∷ enter q ++ b ∷ leave q) e) ∙ in-row
 
-  pub page-commands : (n : ℕ) → n ≡ 8 + p → (p ≡ 0 → ⊥) → 1 ∷ n ∷ b ∷ 1 ∷ [] ≡ setCommands f t
-  page-commands n e d =
+  pub page-said : (n : ℕ) → n ≡ 8 + p → (p ≡ 0 → ⊥) → 1 ∷ n ∷ b ∷ 1 ∷ [] ≡ setCommands f t
+  page-said n e d =
       ap (λ (m : ℕ). 1 ∷ m ∷ b ∷ 1 ∷ []) e
       ∙ sym (ap (λ (c : Bool). 1 ∷ cond c [] ((8 + p) ∷ []) ++ b ∷ cond c [] (1 ∷ [])) (ne-eqb p 0 d))
       ∙ in-row
@@ -98,9 +81,9 @@ pub set-length : (f : ℕ) (t : Registers) → length (setCommands f t) ≡ setL
 set-length f t = go (isGrey f) refl (ℕ-discrete (pageOf (rowFor f)) 0)
   where
     go : (b : Bool) → isGrey f ≡ b → Dec (pageOf (rowFor f) ≡ 0) → length (setCommands f t) ≡ setLength f
-    go true g d = sym (ap length (grey-commands f _ _ t g refl refl)) ∙ grey-count f g
-    go false g (yes e) = sym (ap length (page-0-commands f _ _ t g (rowFor f) refl refl refl e)) ∙ page-0-count f _ _ g refl refl e
-    go false g (no d) = sym (ap length (page-commands f _ _ t g (rowFor f) refl refl refl _ refl d)) ∙ page-count f _ _ g refl refl d
+    go true g d = sym (ap length (grey-said f _ _ t g refl refl)) ∙ grey-count f g
+    go false g (yes e) = sym (ap length (page-0-said f _ _ t g (rowFor f) refl refl refl e)) ∙ page-0-count f _ _ g refl refl e
+    go false g (no d) = sym (ap length (page-said f _ _ t g (rowFor f) refl refl refl _ refl d)) ∙ page-count f _ _ g refl refl d
 
 pub set-length-bound : (f : ℕ) → setLength f ≤ 5
 set-length-bound f = go (isGrey f) (eqb (pageOf (rowFor f)) 0)

@@ -12,11 +12,11 @@ use Rattle.registers.proofs.Within.{register-bound}
 use Rattle.chip.specs.Plays.{Bytes}
 use Rattle.lists.specs.declared.Line.{Line}
 use Rattle.lists.specs.declared.Line.the-variants.{Fill, Set}
-use Rattle.compiler.specs.Plain.{setTo, registersAfter}
-use Rattle.compiler.specs.Stream.{setCommands}
+use Rattle.drawing.specs.Plain.{setTo, registersAfter}
+use Rattle.drawing.specs.Stream.{setCommands}
+use Rattle.drawing.proofs.Fits.{LineFits}
+use Rattle.drawing.proofs.SetPlays.{SetFits, put-blank, blank-allowed, set-bytes, grey-bounds}
 use Rattle.compiler.specs.Writes.{Tracked}
-use Rattle.compiler.proofs.Fits.{LineFits}
-use Rattle.compiler.proofs.SetPlays.{SetFits, put-blank, blank-allowed, set-bytes, grey-bounds}
 
 pub blank-tracked : (r : Registers) → allowedRegisters r ≡ true → Tracked (blank r)
 blank-tracked r ok = record { is-blank = refl; within = blank-allowed r ok }

@@ -1,8 +1,7 @@
 -- What was written one after the other was written together; a fill's runs are those of the stream, and how many events they have.
-use mathlib.Core.Bool.{Bool, true, false, cond}
 use mathlib.Core.List.{List, [], _∷_, _++_}
 use mathlib.Core.Path.{_≡_, refl, sym, ap, _∙_}
-use Prim.Native.Nat.{ℕ, zero, suc, _+_, _*_, _-_, _≤_}
+use Prim.Native.Nat.{ℕ, zero, suc, _+_, _*_}
 use native.Mathlib.Nat.{add-zero, suc-mul, zero-mul}
 use native.Mathlib.Omega.{arith}
 use lib.ListN.{length, replicate, length-append, length-replicate}
@@ -10,7 +9,7 @@ use lib.Seq.{sets}
 use Rattle.registers.specs.declared.Registers.{Registers}
 use Rattle.registers.specs.Reversed.{ordered}
 use Rattle.print.proofs.Writing.{sets-append}
-use Rattle.compiler.specs.Stream.{run, across, down}
+use Rattle.drawing.specs.Stream.{run, across, down}
 use Rattle.compiler.specs.Writes.{Wrote, runEvents, runsFrom}
 
 module _ {l m r : List ℕ} {i j k : ℕ} where
@@ -63,8 +62,3 @@ across-length pins q x n b y k = sym (ap length (across-runs pins q x n b y k)) 
 
 pub down-length : (pins : ℕ) (q : Registers) (y n b x k : ℕ) → length (down pins q y n b x k) ≡ k * (10 + n)
 down-length pins q y n b x k = sym (ap length (down-runs pins q y n b x k)) ∙ runs-length pins n (ordered (q .«data_order») b) 1 0 x y k
-
--- the last X of a run is one of the glass
-pub first-x-limit : (t : Bool) (c0 c1 : ℕ) → c0 ≤ c1 → c1 ≤ 100 → cond t (100 - c1) c0 + (c1 - c0 + 1) ≤ 101
-first-x-limit true c0 c1 h k = omega arith
-first-x-limit false c0 c1 h k = omega arith

@@ -10,12 +10,12 @@ use Rattle.registers.specs.declared.Registers.{Registers}
 use Rattle.registers.specs.Record.{allowed, blank}
 use Rattle.lists.specs.declared.Line.{Line}
 use Rattle.lists.specs.Lists.{Reading, faulty, lines, readingOf, newlines}
+use Rattle.drawing.specs.Stream.{stream, byteEvents, clocksOf}
 use Rattle.compiler.specs.declared.answer.Compiled.{Compiled}
 use Rattle.compiler.specs.declared.answer.Compiled.the-variants.{Done, Refused, BadLine, Short}
 use Rattle.compiler.specs.declared.answer.Numbers.{Numbers}
 use Rattle.compiler.specs.declared.measure.Measured.{Measured}
 use Rattle.compiler.specs.declared.measure.Measured.the-variants.{Fault, Whole}
-use Rattle.compiler.specs.Stream.{stream, byteEvents, clocksOf}
 
 -- the answer, and the output after it
 pub record Result : Type 0 where

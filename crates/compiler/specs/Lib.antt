@@ -1,6 +1,4 @@
 pub mod Compile
-pub mod Demand3
-pub mod Plain
-pub mod Stream
+pub mod Promise
 pub mod When
 pub mod Writes

@@ -9,12 +9,12 @@ use Rattle.registers.specs.declared.Chip.{Chip}
 use Rattle.registers.specs.Record.{allowed, blank}
 use Rattle.lists.specs.declared.Line.{Line}
 use Rattle.lists.specs.Lists.{faulty, lines, readingOf, newlines}
+use Rattle.drawing.specs.Stream.{stream, clocksOf}
 use Rattle.compiler.specs.declared.answer.Compiled.{Compiled}
 use Rattle.compiler.specs.declared.answer.Compiled.the-variants.{Done, Refused, BadLine, Short}
-use Rattle.compiler.specs.Stream.{stream, clocksOf}
 
 -- neither 2 nor 9
-pub record Readable (c : Chip) (text : List ℕ) : Type 0 where
+pub record PassesEntry (c : Chip) (text : List ℕ) : Type 0 where
   pub allowed-record : allowed c ≡ true
   pub not-too-long : newlines text ≤ 4096
 
@@ -30,6 +30,6 @@ NotRead c text k = ((k ≡ 2) × (allowed c ≡ false)) ⊎ ((k ≡ 9) × (allow
 
 abbrev pub When : Chip → List ℕ → List ℕ → Compiled → Type 0
 When c text out (Refused k) = NotRead c text k
-When c text out (BadLine k i) = Readable c text × (readingOf text ≡ faulty k i)
-When c text out (Short n) = Readable c text × ((es : List ℕ) × Streams c text es × (n ≡ length es) × (length out < n))
-When c text out (Done n k) = Readable c text × ((es : List ℕ) × Streams c text es × (n ≡ length es) × (k ≡ clocksOf es) × (n ≤ length out))
+When c text out (BadLine k i) = PassesEntry c text × (readingOf text ≡ faulty k i)
+When c text out (Short n) = PassesEntry c text × ((es : List ℕ) × Streams c text es × (n ≡ length es) × (length out < n))
+When c text out (Done n k) = PassesEntry c text × ((es : List ℕ) × Streams c text es × (n ≡ length es) × (k ≡ clocksOf es) × (n ≤ length out))

@@ -11,9 +11,9 @@ use Rattle.registers.specs.Encode.{isGrey, rowFor}
 use Rattle.registers.specs.Reversed.{ordered}
 use Rattle.registers.specs.Record.{blank, allowedRegisters}
 use Rattle.chip.specs.Plays.{dataMessage}
-use Rattle.compiler.specs.declared.runs.Counts.{Counts}
+use Rattle.drawing.specs.Stream.{firstX, byteEvents, pageOf}
+use Rattle.compiler.specs.declared.line.Counts.{Counts}
 use Rattle.compiler.specs.declared.runs.Runs.{Runs}
-use Rattle.compiler.specs.Stream.{firstX, byteEvents, pageOf}
 
 -- the events es were stored into l from place i on, which left m, and the next place is j
 pub record Wrote (l : List ℕ) (i : ℕ) (es : List ℕ) (m : List ℕ) (j : ℕ) : Type 0 where

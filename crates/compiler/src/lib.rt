@@ -1,11 +1,11 @@
-// Drawing lists to bus events. What a list means, which events say it, and that the two agree on every chip stands in specs/.
+// Drawing lists to bus events. What a list means, which events say it, and that the two agree on every chip stands in `drawing`.
 ghost use mathlib.Core.Path.{_≡_};
 ghost use Prim.Native.Nat.{_≤_};
 ghost use Rattle.registers.specs.Record.{blank};
 ghost use Rattle.lists.specs.Lists.{newlines, readingOf};
-ghost use Rattle.compiler.specs.Compile.{result, fromReading, compileOf};
-ghost use Rattle.compiler.specs.Demand3.{Promise};
 ghost use Rattle.compiler.specs.Writes.{Tracked};
+ghost use Rattle.compiler.specs.Compile.{result, fromReading, compileOf};
+ghost use Rattle.compiler.specs.Promise.{Promise};
 use answer::Compiled;
 use measure::Measured;
 use registers::Chip;

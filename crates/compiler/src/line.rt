@@ -3,18 +3,23 @@ ghost use mathlib.Core.Path.{_≡_};
 ghost use Prim.Native.Nat.{_+_, _≤_};
 ghost use lib.ListN.{length};
 ghost use Rattle.lists.specs.Syntax.{Valid};
-ghost use Rattle.compiler.specs.Plain.{registersAfter};
-ghost use Rattle.compiler.specs.Stream.{lineEvents};
+ghost use Rattle.drawing.specs.Plain.{registersAfter};
+ghost use Rattle.drawing.specs.Stream.{lineEvents};
 ghost use Rattle.compiler.specs.Writes.{Wrote, Tracked, countsOf};
 use crate::message;
 use crate::runs;
-use crate::runs::Counts;
 use crate::setting;
 use lists::Line;
 use registers::Registers;
 
+// How many events there are, and how many of them are bytes.
+pub struct Counts {
+    pub events: usize,
+    pub bytes: usize,
+}
+
 // The registers that the next line finds.
-pub fn after(line: Line, registers: Registers) -> Registers
+pub fn registers_after(line: Line, registers: Registers) -> Registers
     ensures { λ r. ⌜ r ≡ registersAfter line registers ⌝ }
 {
     match line {

@@ -2,8 +2,8 @@
 ghost use mathlib.Core.Path.{_≡_};
 ghost use Prim.Native.Nat.{_≤_};
 ghost use Rattle.lists.specs.Lists.{newlines, readingOf};
-ghost use Rattle.compiler.specs.Compile.{measureOf};
 ghost use Rattle.compiler.specs.Writes.{Tracked};
+ghost use Rattle.compiler.specs.Compile.{measureOf};
 use crate::line;
 use lists::Parsed;
 use registers::Registers;
@@ -36,7 +36,7 @@ pub fn measure(text: &[u8], registers: Registers, pins: u8) -> Measured
                 let counts = line::count(asked, tracked, pins);
                 length += counts.events;
                 bytes += counts.bytes;
-                tracked = line::after(asked, tracked);
+                tracked = line::registers_after(asked, tracked);
             }
         }
         at = found.next;

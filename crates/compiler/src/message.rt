@@ -1,9 +1,9 @@
 // The message of a set, written into a buffer that has room for it.
-ghost use mathlib.Core.List.{[], _∷_};
+ghost use mathlib.Core.List.{[]};
 ghost use Prim.Native.Nat.{_+_, _*_, _≤_};
 ghost use lib.ListN.{length};
 ghost use Rattle.chip.specs.Plays.{singles, message};
-ghost use Rattle.compiler.specs.Stream.{setCommands};
+ghost use Rattle.drawing.specs.Stream.{setCommands};
 ghost use Rattle.compiler.specs.Writes.{Wrote};
 use crate::emit;
 use crate::setting;

@@ -3,9 +3,10 @@ ghost use mathlib.Core.Path.{_≡_};
 ghost use Prim.Native.Nat.{_+_, _-_, _<_, _≤_};
 ghost use lib.ListN.{length};
 ghost use Rattle.lists.specs.Syntax.{ValidFill};
-ghost use Rattle.compiler.specs.Stream.{firstX, fill};
+ghost use Rattle.drawing.specs.Stream.{firstX, fill};
 ghost use Rattle.compiler.specs.Writes.{Wrote, RunsFit, runEvents, runsEvents, runsOf, counts, fillCount};
 use crate::emit;
+use crate::line::Counts;
 use registers::Registers;
 
 // `count` messages of `bytes` display bytes each. The first begins at X x and Y y, and each at dx more and dy more than the one before.
@@ -17,12 +18,6 @@ pub struct Runs {
     y: u16,
     dx: u16,
     dy: u16,
-}
-
-// How many events there are, and how many of them are bytes.
-pub struct Counts {
-    pub events: usize,
-    pub bytes: usize,
 }
 
 // The smallest X: with MX = 1 that of the last column.

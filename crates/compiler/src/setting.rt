@@ -2,8 +2,8 @@
 ghost use mathlib.Core.Path.{_≡_};
 ghost use Prim.Native.Nat.{_≤_};
 ghost use lib.ListN.{length, take};
-ghost use Rattle.compiler.specs.Plain.{setTo};
-ghost use Rattle.compiler.specs.Stream.{pageOf, setCommands};
+ghost use Rattle.drawing.specs.Plain.{setTo};
+ghost use Rattle.drawing.specs.Stream.{pageOf, setCommands};
 ghost use Rattle.compiler.specs.Writes.{setLength};
 use registers::Registers;
 use registers::encoding::is_grey;

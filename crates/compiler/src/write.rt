@@ -4,8 +4,8 @@ ghost use Prim.Native.Nat.{_≤_};
 ghost use lib.ListN.{length};
 ghost use lib.Seq.{sets};
 ghost use Rattle.lists.specs.Lists.{lines, readingOf};
+ghost use Rattle.drawing.specs.Stream.{stream};
 ghost use Rattle.compiler.specs.Compile.{linesOf};
-ghost use Rattle.compiler.specs.Stream.{stream};
 use crate::line;
 use lists::Parsed;
 use registers::Registers;
@@ -25,7 +25,7 @@ pub fn write(out: &mut [u16], text: &[u8], registers: Registers, pins: u8)
             Parsed::Bad(_) => return,
             Parsed::Good(asked) => {
                 here = line::write(out, here, asked, tracked, pins);
-                tracked = line::after(asked, tracked);
+                tracked = line::registers_after(asked, tracked);
             }
         }
         at = found.next;

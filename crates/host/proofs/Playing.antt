@@ -27,8 +27,8 @@ use Rattle.chip.specs.Plays.{played}
 use Rattle.chip.specs.Promised.{storedOf}
 use Rattle.chip.proofs.Laws.{stays-fit, count-law, run-steps, last-writer}
 use Rattle.lists.specs.declared.Line.{Line}
-use Rattle.compiler.specs.Demand3.{Demand3}
-use Rattle.compiler.specs.Plain.{pictureOf, plain}
+use Rattle.drawing.specs.Demand3.{Demand3}
+use Rattle.drawing.specs.Plain.{pictureOf, plainReading}
 use Rattle.record_words.specs.Words.{STATUS, COUNT, phaseRs, bit, standsFor, chipOf, wordsOf}
 use Rattle.record_words.proofs.Laws.{words-chip-words, chip-words-chip, allowed-stands}
 use Rattle.record_words.proofs.Stands.{stands-at}
@@ -228,7 +228,7 @@ played-by-calls ls es s h d =
           (no-refusal-number (stepOf (getD es i 0) (before es i s) .answer)
           (step-answers (before es i s) (stands i l) (getD es i 0) (accepted i l) .answered));
       acknowledged = λ i l b. number i l ∙ acknowledged-number _ (d .all-good i l .acknowledged b);
-      same-picture = ap pictureIn ends ∙ picture-of (played es s) ∙ d .same-picture ∙ ap (plain ls) (sym (picture-of s));
+      same-picture = ap pictureIn ends ∙ picture-of (played es s) ∙ d .same-picture ∙ ap (plainReading ls) (sym (picture-of s));
       same-run =
           call-runs es s h ∙ ap afterRun (d .same-run) ∙ ap (λ (b : Buffers). ran 0 (length es) (b .words) (b .memory) (b .writers)) (sym ends);
     }

@@ -9,7 +9,7 @@ use Rattle.registers.specs.State.{places}
 use Rattle.chip.specs.Promised.{placeOf, storedOf}
 use Rattle.lists.specs.declared.Line.{Line}
 use Rattle.lists.specs.Lists.{lines, readingOf}
-use Rattle.compiler.specs.Plain.{Picture, plain}
+use Rattle.drawing.specs.Plain.{Picture, plainReading}
 use Rattle.record_words.specs.Words.{PHASE-RS, COUNT}
 use Rattle.host.specs.Calls.{Stepped, stepCall, Ran, ran, runCall}
 
@@ -56,7 +56,7 @@ pub record PlayedByCalls (ls : List Line) (es : List ℕ) (b : Buffers) : Type 0
   pub not-refused : (i : ℕ) → i < length es → 256 ≤ stepOn (getD es i 0) (uponEvent es i b) .number
   pub acknowledged : (i : ℕ) → i < length es → getD es i 0 < 256 → stepOn (getD es i 0) (uponEvent es i b) .number ≡ 257
   -- the buffers are those of the list's plain reading
-  pub same-picture : pictureIn (afterEvents es b) ≡ plain ls (pictureIn b)
+  pub same-picture : pictureIn (afterEvents es b) ≡ plainReading ls (pictureIn b)
   -- pcf8820_run over the same events gives 0, does them all, and leaves the same buffers
   pub same-run : runOn es b ≡ ran 0 (length es) (afterEvents es b .words) (afterEvents es b .memory) (afterEvents es b .writers)
 

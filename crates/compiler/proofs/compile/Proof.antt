@@ -2,7 +2,7 @@ use mathlib.Core.Path.{sym, _∙_}
 use denote.Ref.{now}
 use borrow.Author.Needs.{needs}
 use borrow.Author.Tests.{not-true, not-false}
-use Rattle.compiler.proofs.CodePasses.{not-allowed, too-long, readable, read}
+use Rattle.compiler.proofs.CodeWays.{not-allowed, too-long, readable, read}
 use Rattle.compiler.proofs.compile.Statement.{statement}
 use Rattle.compiler.proofs.compile.Tie as tie
 

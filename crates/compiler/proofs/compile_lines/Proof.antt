@@ -1,6 +1,6 @@
 use denote.Ref.{now}
 use borrow.Author.Needs.{needs}
-use Rattle.compiler.proofs.CodePasses.{bad-line, clocks-room, too-short, writable, written}
+use Rattle.compiler.proofs.CodeWays.{bad-line, clocks-room, too-short, writable, written}
 use Rattle.compiler.proofs.compile_lines.Statement.{statement}
 use Rattle.compiler.proofs.compile_lines.Tie as tie
 

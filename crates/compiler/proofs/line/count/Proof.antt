@@ -1,7 +1,6 @@
 use native.Mathlib.Omega.{arith}
 use borrow.Author.Needs.{needs}
-use Rattle.compiler.proofs.CodePasses.{fill-line-counts, set-line-counts}
-use Rattle.compiler.proofs.Lines.{valid-fill}
+use Rattle.compiler.proofs.Lines.{valid-fill, fill-line-counts, set-line-counts}
 use Rattle.compiler.proofs.Settings.{set-length-bound}
 use Rattle.compiler.proofs.line.count.Statement.{statement}
 use Rattle.compiler.proofs.line.count.Tie as tie

@@ -2,7 +2,7 @@ use mathlib.Core.Path.{ap}
 use native.Mathlib.Omega.{arith}
 use lib.ListN.{length}
 use borrow.Author.Needs.{needs}
-use Rattle.compiler.proofs.Lines.{valid-fill, fill-told, set-room, fill-line-wrote, set-line-wrote}
+use Rattle.compiler.proofs.Lines.{valid-fill, fill-line-events, set-room, fill-line-wrote, set-line-wrote}
 use Rattle.compiler.proofs.line.write.Statement.{statement}
 use Rattle.compiler.proofs.line.write.Tie as tie
 
@@ -14,7 +14,7 @@ write-requires c κs =
     let told = c .before .before in
     let start = told .before .before .before in
     let is = told .line .given .1 in
-    let events = fill-told (start .args .pins) _ (start .args .registers) _ _ _ _ _ is in
+    let events = fill-line-events (start .args .pins) _ (start .args .registers) _ _ _ _ _ is in
     (valid-fill _ (start .pre .0) _ _ _ _ _ is, omega (arith, start .pre .1, ap length events))
 
 enum-known-line-2 : tie.Need-enum-known-line-2

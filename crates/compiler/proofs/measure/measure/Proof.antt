@@ -3,7 +3,7 @@ use Prim.Native.Nat.{_-_}
 use lib.ListN.{length}
 use borrow.Author.Needs.{needs}
 use Rattle.lists.proofs.Positions.{reading-next, line-valid}
-use Rattle.compiler.proofs.CodePasses.{Measuring, measuring-start, measuring-end, measuring-fault, measuring-room, measuring-turn}
+use Rattle.compiler.proofs.CodeWays.{Measuring, measuring-start, measuring-end, measuring-fault, measuring-room, measuring-turn}
 use Rattle.compiler.proofs.measure.measure.Statement.{statement}
 use Rattle.compiler.proofs.measure.measure.Tie as tie
 
@@ -60,8 +60,8 @@ add-bytes c =
     in
     omega (arith, room .1)
 
-after-requires : tie.Need-after-requires Inv-loop μ-loop
-after-requires c κs = search needs
+registers-after-requires : tie.Need-registers-after-requires Inv-loop μ-loop
+registers-after-requires c κs = search needs
 
 add-number : tie.Need-add-number Inv-loop μ-loop
 add-number c =
@@ -81,7 +81,7 @@ loop-again c =
     let found = told .before .before in
     let test = found .before in
     measuring-turn (test .before .loop .inv) (test .loop-test .taken) _ (found .line-at .ensures) _ (told .parsed2 .given .1) _ (counted .count .ensures) _
-    (c .after .ensures)
+    (c .registers-after .ensures)
 
 returns-2 : tie.Need-returns-2 Inv-loop μ-loop
 returns-2 c = measuring-end (c .before .loop .inv) (c .loop-test .left)
@@ -100,7 +100,7 @@ measure-spec =
     count-requires
     add-length
     add-bytes
-    after-requires
+    registers-after-requires
     add-number
     loop-less
     loop-again

@@ -14,28 +14,38 @@ pair-requires : tie.Need-pair-requires
 pair-requires c κs = search needs
 
 array-share-prefix-bytes : tie.Need-array-share-prefix-bytes
-array-share-prefix-bytes c = omega (arith, c .before .before .before .before .before .before .before .set-commands .ensures .1)
+array-share-prefix-bytes c =
+    let started = c .before .before .before in
+    omega (arith, started .before .before .before .before .set-commands .ensures .1)
 
 slice-aggregate-commands : tie.Need-slice-aggregate-commands
-slice-aggregate-commands c = said-length _ _ _ (c .before .before .before .before .before .before .before .before .set-commands .ensures .0) (c .before .before .before .before .before .before .before .before .set-commands .ensures .1) .0
+slice-aggregate-commands c =
+    let started = c .before .before .before .before in
+    said-length _ _ _ (started .before .before .before .before .set-commands .ensures) .0
 
 commands-requires : tie.Need-commands-requires
-commands-requires c κs = omega (arith, c .before .before .before .before .before .before .before .before .set-commands .ensures .1, c .before .before .before .before .pair .ensures .next, said-length _ _ _ (c .before .before .before .before .before .before .before .before .set-commands .ensures .0) (c .before .before .before .before .before .before .before .before .set-commands .ensures .1))
+commands-requires c κs =
+    let started = c .before .before .before .before in
+    let said = started .before .before .before .before .set-commands .ensures in
+    omega (arith, said .1, started .pair .ensures .next, said-length _ _ _ said)
 
 put-requires : tie.Need-put-requires
 put-requires c κs =
-    omega (
-      arith,
-      c .before .before .before .before .before .before .before .before .pair .ensures .next,
-      said-next _ _ _ (c .before .before .before .before .before .before .before .before .before .before .before .before .set-commands .ensures .0) (c .before .before .before .before .before .before .before .before .before .before .before .before .set-commands .ensures .1) (c .before .before .before .commands .ensures),
-    )
+    let told = c .before .before .before in
+    let started = told .before .before .before .before .before in
+    let said = started .before .before .before .before .set-commands .ensures in
+    omega (arith, started .pair .ensures .next, said-next _ _ _ said (told .commands .ensures))
 
 same-length : tie.Need-same-length
 same-length c = search needs
 
 returns : tie.Need-returns
 returns c =
-    message-wrote _ _ _ _ (c .before .before .before .before .before .before .before .before .before .before .before .before .write-address .ensures) (c .before .before .before .before .before .before .before .before .before .before .before .before .before .before .before .set-commands .ensures .0) (c .before .before .before .before .before .before .before .before .before .before .before .pair .ensures) (c .before .before .before .before .before .before .commands .ensures) (c .before .before .put .ensures)
+    let stopped = c .before .before in
+    let told = stopped .before .before .before .before in
+    let started = told .before .before .before .before .before in
+    let said = started .before .before .before .before .set-commands .ensures in
+    message-wrote _ _ _ _ (started .before .write-address .ensures) (said .0) (started .pair .ensures) (told .commands .ensures) (stopped .put .ensures)
 
 pub set-spec : {M : Type 1} → statement M
 set-spec =

@@ -1,7 +1,7 @@
 use mathlib.Core.Path.{refl, sym, _∙_}
 use native.Mathlib.Omega.{arith}
 use borrow.Author.Needs.{needs}
-use Rattle.compiler.proofs.Settings.{grey-commands, page-0-commands, page-commands}
+use Rattle.compiler.proofs.Settings.{grey-said, page-0-said, page-said}
 use Rattle.compiler.proofs.setting.set_commands.Statement.{statement}
 use Rattle.compiler.proofs.setting.set_commands.Tie as tie
 
@@ -19,7 +19,7 @@ returns c =
     let tested = c .before .before in
     let given = tested .before .before .args in
     let grey = sym (tested .before .is-grey .ensures) ∙ tested .if1 .taken in
-    (grey-commands (given .field) _ _ (given .target) grey (c .before .row-byte .ensures) (c .row-byte2 .ensures), omega arith)
+    (grey-said (given .field) _ _ (given .target) grey (c .before .row-byte .ensures) (c .row-byte2 .ensures), omega arith)
 
 row-for-requires : tie.Need-row-for-requires
 row-for-requires c κs = search needs
@@ -36,7 +36,7 @@ returns-2 c =
     let at-row = at-page .before in
     let given = at-row .before .before .before .args in
     let other = sym (at-row .before .before .is-grey .ensures) ∙ at-row .before .if1 .left in (
-      page-0-commands (given .field) _ _ (given .target) other
+      page-0-said (given .field) _ _ (given .target) other
           _ (at-row .row-for .ensures) (at-page .page-of .ensures) (c .before .row-byte3 .ensures) (c .if2 .taken),
       omega arith,
     )
@@ -53,7 +53,7 @@ returns-3 c =
     let at-row = at-page .before in
     let given = at-row .before .before .before .args in
     let other = sym (at-row .before .before .is-grey .ensures) ∙ at-row .before .if1 .left in (
-      page-commands (given .field) _ _ (given .target) other
+      page-said (given .field) _ _ (given .target) other
           _ (at-row .row-for .ensures) (at-page .page-of .ensures) (c .before .row-byte3 .ensures) _ refl (c .if2 .left),
       omega arith,
     )

@@ -1,7 +1,8 @@
 use mathlib.Core.Path.{sym, _∙_}
 use native.Mathlib.Omega.{arith}
 use borrow.Author.Needs.{needs}
-use Rattle.compiler.proofs.Settings.{grey-from, grey-set, other-set}
+use Rattle.drawing.proofs.SetPlays.{grey-bounds}
+use Rattle.compiler.proofs.Settings.{grey-set, other-set}
 use Rattle.compiler.proofs.setting.with_field.Statement.{statement}
 use Rattle.compiler.proofs.setting.with_field.Tie as tie
 
@@ -9,7 +10,9 @@ is-grey-requires : tie.Need-is-grey-requires
 is-grey-requires c κs = search needs
 
 sub-with : tie.Need-sub-with
-sub-with c = omega (arith, grey-from (c .before .before .args .field) (sym (c .before .is-grey .ensures) ∙ c .if1 .taken))
+sub-with c =
+    let grey = sym (c .before .is-grey .ensures) ∙ c .if1 .taken in
+    omega (arith, grey-bounds (c .before .before .args .field) grey .0)
 
 with-requires : tie.Need-with-requires
 with-requires c κs = search needs

@@ -2,7 +2,7 @@ use native.Mathlib.Omega.{arith}
 use Prim.Native.Nat.{_-_}
 use lib.ListN.{length}
 use Rattle.lists.proofs.Positions.{reading-next}
-use Rattle.compiler.proofs.CodePasses.{Writing, writing-start, writing-end, writing-no-fault, writing-room, writing-turn}
+use Rattle.compiler.proofs.CodeWays.{Writing, writing-start, writing-end, writing-no-fault, writing-room, writing-turn}
 use borrow.Author.Needs.{needs}
 use Rattle.compiler.proofs.write.write.Statement.{statement}
 use Rattle.compiler.proofs.write.write.Tie as tie
@@ -43,8 +43,8 @@ write-requires c κs =
     let test = found .before in
     writing-room (test .before .loop .inv) (test .loop-test .taken) _ (found .line-at .ensures) _ (told .parsed .given .1)
 
-after-requires : tie.Need-after-requires Inv-loop μ-loop
-after-requires c κs = search needs
+registers-after-requires : tie.Need-registers-after-requires Inv-loop μ-loop
+registers-after-requires c κs = search needs
 
 loop-less : tie.Need-loop-less Inv-loop μ-loop
 loop-less c =
@@ -60,7 +60,7 @@ loop-again c =
     let found = told .before .before in
     let test = found .before in
     writing-turn (test .before .loop .inv) (test .loop-test .taken) _ (found .line-at .ensures) _ (told .parsed .given .1) _ _ _
-    (search needs) (written .write .ensures) (c .after .ensures)
+    (search needs) (written .write .ensures) (c .registers-after .ensures)
 
 same-length-2 : tie.Need-same-length-2 Inv-loop μ-loop
 same-length-2 c = c .before .loop .inv .same-length
@@ -81,7 +81,7 @@ write-spec =
     returns
     enum-known-parsed
     write-requires
-    after-requires
+    registers-after-requires
     loop-less
     loop-again
     same-length-2

@@ -15,12 +15,12 @@ use Rattle.lists.specs.declared.Line.{Line}
 use Rattle.lists.specs.declared.Line.the-variants.{Fill, Set}
 use Rattle.lists.specs.Lists.{lines, readingOf}
 use Rattle.lists.proofs.Readings.{reading-accepted}
-use Rattle.compiler.specs.Demand3.{Demand3}
-use Rattle.compiler.specs.Plain.{Picture, pictureOf, cellsAfter, registersAfter, plain}
-use Rattle.compiler.specs.Stream.{lineEvents, stream}
-use Rattle.compiler.proofs.FillPlays.{Shows, fill-plays}
-use Rattle.compiler.proofs.Fits.{LineFits, AllFit, all-fit}
-use Rattle.compiler.proofs.SetPlays.{set-plays}
+use Rattle.drawing.specs.Demand3.{Demand3}
+use Rattle.drawing.specs.Plain.{Picture, pictureOf, cellsAfter, registersAfter, plainReading}
+use Rattle.drawing.specs.Stream.{lineEvents, stream}
+use Rattle.drawing.proofs.FillPlays.{Shows, fill-plays}
+use Rattle.drawing.proofs.Fits.{LineFits, AllFit, all-fit}
+use Rattle.drawing.proofs.SetPlays.{set-plays}
 
 line-plays :
     (l : Line) → LineFits l → (q : Registers) (m : List ℕ) (pins k : ℕ) (s : State) → Shows q m pins (length (lineEvents pins l q) + k) s
@@ -37,14 +37,14 @@ more-room q m pins k j s e shows = subst (λ (n : ℕ). Shows q m pins n s) e sh
 
 pub list-plays :
     (ls : List Line) → AllFit ls → (q : Registers) (m : List ℕ) (pins k : ℕ) (s : State) → Shows q m pins (length (stream pins ls q) + k) s
-    → Plays (stream pins ls q) (Shows (plain ls (picture m q) .registers) (plain ls (picture m q) .cells) pins k) s
+    → Plays (stream pins ls q) (Shows (plainReading ls (picture m q) .registers) (plainReading ls (picture m q) .cells) pins k) s
 unfolding stream
 list-plays [] fit q m pins k s shows = plays-none (Shows q m pins k) s (more-room q m pins (0 + k) k s (omega arith) shows)
 list-plays (l ∷ ls) fit q m pins k s shows =
     let q′ = registersAfter l q in
     let m′ = cellsAfter l m in
     let rest = stream pins ls q′ in
-    let Q : State → Type 0 = Shows (plain ls (picture m′ q′) .registers) (plain ls (picture m′ q′) .cells) pins k in
+    let Q : State → Type 0 = Shows (plainReading ls (picture m′ q′) .registers) (plainReading ls (picture m′ q′) .cells) pins k in
     plays-append (lineEvents pins l q) rest Q s
     (plays-weaken (lineEvents pins l q) (Shows q′ m′ pins (length rest + k)) (λ (t : State). Plays rest Q t) s
     (λ t after. list-plays ls (fit .1) q′ m′ pins k t after)
@@ -63,16 +63,16 @@ demand-3 ls fits s fit room =
     let start : Shows q (s .memory) pins (length es + 0) s =
     record {
       full = s .chip .registers;
-      sees = record { registers = refl; memory = refl; pins-are = refl; fit = fit; room = omega (arith, room) };
+      visible = record { registers = refl; memory = refl; pins-are = refl; fit = fit; room = omega (arith, room) };
       same = refl;
     }
     in
-    let after = plain ls (pictureOf s) in
+    let after = plainReading ls (pictureOf s) in
     let played-all = list-plays ls fits q (s .memory) pins 0 s start in
     let end = plays-end es (Shows (after .registers) (after .cells) pins 0) s played-all in
     record {
       all-good = plays-good es (Shows (after .registers) (after .cells) pins 0) s played-all;
-      same-picture = λ i. record { cells = end .sees .memory i; registers = (ap blank (end .sees .registers) ∙ end .same) i };
+      same-picture = λ i. record { cells = end .visible .memory i; registers = (ap blank (end .visible .registers) ∙ end .same) i };
       same-run = plays-run es (Shows (after .registers) (after .cells) pins 0) s fit played-all;
     }
 

@@ -10,16 +10,14 @@ use Rattle.chip.specs.Plays.{Good, played}
 use Rattle.chip.specs.Promised.{Fit, runOf, outcome}
 use Rattle.lists.specs.declared.Line.{Line}
 use Rattle.lists.specs.Lists.{lines, readingOf}
-use Rattle.compiler.specs.declared.answer.Compiled.{Compiled}
-use Rattle.compiler.specs.declared.answer.Compiled.the-variants.{Done}
-use Rattle.compiler.specs.Plain.{pictureOf, plain}
+use Rattle.drawing.specs.Plain.{pictureOf, plainReading}
 
 -- the events es of the lines ls, played to the chip of s one after the other
 pub record Demand3 (ls : List Line) (es : List ℕ) (s : State) : Type 0 where
   -- no event is refused, and every byte is acknowledged
   pub all-good : (i : ℕ) → i < length es → Good (getD es i 0) (before es i s)
   -- the display memory, and every register but H, X and Y, are those of the list's plain reading
-  pub same-picture : pictureOf (played es s) ≡ plain ls (pictureOf s)
+  pub same-picture : pictureOf (played es s) ≡ plainReading ls (pictureOf s)
   -- the run over the same events ends in the same record and memories, and does them all
   pub same-run : runOf es s ≡ outcome (length es) 0 (played es s)
 
@@ -29,7 +27,3 @@ pub record Draws (c : Chip) (text : List ℕ) (n : ℕ) (out : List ℕ) : Type 
   pub list : List Line
   pub reads : readingOf text ≡ lines list
   pub plays : (m w : List ℕ) → Fit (state c m w) → c .count + n < 2 ^ 64 → Demand3 list (take n out) (state c m w)
-
--- what `compile` promises of an output that it wrote
-abbrev pub Promise : Compiled → Chip → List ℕ → List ℕ → Type 0
-Promise r c text out = (n k : ℕ) → r ≡ Done n k → Draws c text n out

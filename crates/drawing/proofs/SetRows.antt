@@ -7,10 +7,10 @@ use native.Mathlib.Nat.{lt-of-le-of-lt}
 use native.Mathlib.Decide.{ℕ-discrete}
 use borrow.Author.Tests.{eq-eqb, ne-eqb}
 use lib.Dec.{T, eqb, leb, ltb, leb→le, ltb→lt}
-use lib.ListN.{getD, set}
+use lib.ListN.{getD}
 use lib.Seq.{ext-getD}
 use Rattle.registers.specs.declared.Registers.{Registers}
-use Rattle.registers.specs.Encode.{held, aimed, isGrey, hasField, setsField, rowFor}
+use Rattle.registers.specs.Encode.{held, withParts, isGrey, hasField, setsField, rowFor}
 use Rattle.registers.specs.Places.{H, X, Y}
 use Rattle.registers.specs.Record.{values, ofValues, limits, put, blank, allowedRegisters}
 use Rattle.registers.specs.Table.{Target, Part, rows, noRow, putTo}
@@ -56,15 +56,15 @@ put-at f g t r l = go (ℕ-discrete g f)
     go (no n) = put-other f (at t f) r g n ∙ sym (ap (λ (b : Bool). cond b (at t g) (at r g)) (ne-eqb g f n))
 
 -- each register is as aimed where a part is that register, and else as it was
-pub aimed-at : (ps : List Part) → T (allSimple ps) → (t r : Registers) (g : ℕ) → at (aimed ps t r) g ≡ cond (hasField g ps) (at t g) (at r g)
-aimed-at [] s t r g = refl
-aimed-at (p ∷ ps) s t r g =
+pub with-parts-at : (ps : List Part) → T (allSimple ps) → (t r : Registers) (g : ℕ) → at (withParts ps t r) g ≡ cond (hasField g ps) (at t g) (at r g)
+with-parts-at [] s t r g = refl
+with-parts-at (p ∷ ps) s t r g =
     target-at (p .target) (and-left (simple (p .target) (p .width)) (allSimple ps) s)
-    (λ r′. aimed-at ps (and-right (simple (p .target) (p .width)) (allSimple ps) s) t r′ g)
+    (λ r′. with-parts-at ps (and-right (simple (p .target) (p .width)) (allSimple ps) s) t r′ g)
   where
     target-at :
-        (x : Target) → T (simple x (p .width)) → ((r′ : Registers) → at (aimed ps t r′) g ≡ cond (hasField g ps) (at t g) (at r′ g))
-        → at (aimed ps t (putTo x (held x t) r)) g ≡ cond (setsField g x || hasField g ps) (at t g) (at r g)
+        (x : Target) → T (simple x (p .width)) → ((r′ : Registers) → at (withParts ps t r′) g ≡ cond (hasField g ps) (at t g) (at r′ g))
+        → at (withParts ps t (putTo x (held x t) r)) g ≡ cond (setsField g x || hasField g ps) (at t g) (at r g)
     target-at (register f) b rest =
         rest (put f (at t f) r)
         ∙ ap (λ (n : ℕ). cond (hasField g ps) (at t g) n) (put-at f g t r (ltb→lt f 29 (and-right (ltb (getD limits f 0) (2 ^ (p .width))) (ltb f 29) b)))

@@ -1,7 +1,7 @@
 use Rattle.compiler.proofs.Lines.{after-fill, after-set}
 use borrow.Author.Needs.{needs}
-use Rattle.compiler.proofs.line.after.Statement.{statement}
-use Rattle.compiler.proofs.line.after.Tie as tie
+use Rattle.compiler.proofs.line.registers_after.Statement.{statement}
+use Rattle.compiler.proofs.line.registers_after.Tie as tie
 
 enum-told : tie.Need-enum-told
 enum-told c = search needs
@@ -18,5 +18,5 @@ returns c = after-fill _ _ _ _ _ _ _ (c .enum-told .given .1)
 returns-2 : tie.Need-returns-2
 returns-2 c = after-set _ _ _ _ _ (c .before .before .line .given .1) (c .with-field .ensures)
 
-pub after-spec : {M : Type 1} → statement M
-after-spec = tie.close (tie.spec enum-told enum-known-line with-field-requires returns returns-2)
+pub registers-after-spec : {M : Type 1} → statement M
+registers-after-spec = tie.close (tie.spec enum-told enum-known-line with-field-requires returns returns-2)

@@ -1,12 +1,12 @@
--- The ways through `line`, `measure`, `write` and `compile`, over plain variables: a line's counts, the two passes turn by turn, what is returned.
-use mathlib.Core.Bool.{Bool, true, false, cond}
+-- The ways through `measure`, `write` and `compile`, over plain variables: the two passes turn by turn, and what is returned.
+use mathlib.Core.Bool.{true, false}
 use mathlib.Core.List.{List, [], _∷_, _++_}
 use mathlib.Core.Path.{_≡_, refl, sym, ap, _∙_, subst}
-use Prim.Native.Nat.{ℕ, suc, _+_, _*_, _-_, _^_, _≤_, _<_}
-use native.Mathlib.Nat.{zero-add, add-zero, mul-le-mul}
+use Prim.Native.Nat.{ℕ, _+_, _*_, _^_, _≤_, _<_}
+use native.Mathlib.Nat.{zero-add, add-zero}
 use native.Mathlib.Omega.{arith}
 use borrow.Author.Tests.{lt-ltb, le-ltb, lt-leb, le-leb, leb-true}
-use lib.Dec.{eqb, leb, ltb}
+use lib.Dec.{leb}
 use lib.ListN.{length, drop, length-append}
 use lib.Seq.{sets}
 use Rattle.registers.specs.declared.Chip.{Chip}
@@ -14,65 +14,30 @@ use Rattle.registers.specs.declared.Registers.{Registers}
 use Rattle.registers.specs.Record.{allowed, allowedRegisters, blank}
 use Rattle.registers.proofs.Within.{both-left, both-right}
 use Rattle.lists.specs.declared.Line.{Line}
-use Rattle.lists.specs.declared.Line.the-variants.{Fill, Set}
 use Rattle.lists.specs.declared.LineAt.{LineAt}
 use Rattle.lists.specs.declared.Parsed.the-variants.{Good, Bad}
 use Rattle.lists.specs.Lists.{Reading, faulty, lines, alsoLine, readingFrom, readingOf, newlines, lineAt}
 use Rattle.lists.specs.Syntax.{Valid, AllValid}
 use Rattle.lists.proofs.Positions.{reading-bad, reading-good, reading-next, reading-end, reading-whole, line-valid, newlines-left}
 use Rattle.lists.proofs.Readings.{Accepted, not-lines, same-lines, reading-accepted}
+use Rattle.drawing.specs.Plain.{registersAfter}
+use Rattle.drawing.specs.Stream.{lineEvents, stream, byteEvents, clocksOf}
+use Rattle.drawing.proofs.Fits.{line-fits}
+use Rattle.compiler.specs.declared.line.Counts.{Counts}
+use Rattle.compiler.specs.Writes.{Wrote, Tracked, countsOf}
+use Rattle.compiler.proofs.Clocks.{bytes-append, bytes-limit}
+use Rattle.compiler.proofs.Writes.{wrote-then, wrote-none}
+use Rattle.compiler.proofs.Lines.{line-limit}
+use Rattle.compiler.proofs.Tracked.{after-tracked, blank-tracked}
 use Rattle.compiler.specs.declared.answer.Compiled.{Compiled}
 use Rattle.compiler.specs.declared.answer.Compiled.the-variants.{Done, Refused, BadLine, Short}
 use Rattle.compiler.specs.declared.measure.Measured.{Measured}
 use Rattle.compiler.specs.declared.measure.Measured.the-variants.{Fault, Whole}
-use Rattle.compiler.specs.declared.runs.Counts.{Counts}
 use Rattle.compiler.specs.Compile.{result, intoOutput, fromReading, compileOf, measureFrom, measureOf, linesOf}
-use Rattle.compiler.specs.Demand3.{Promise}
-use Rattle.compiler.specs.Plain.{setTo, registersAfter}
-use Rattle.compiler.specs.Stream.{fill, lineEvents, stream, byteEvents, clocksOf}
-use Rattle.compiler.specs.Writes.{Wrote, Tracked, counts, countsOf, fillCount, setLength}
-use Rattle.compiler.proofs.Clocks.{bytes-append, fill-length}
-use Rattle.compiler.proofs.Writes.{wrote-then, wrote-none}
-use Rattle.compiler.proofs.Fits.{line-fits}
-use Rattle.compiler.proofs.Lines.{set-room, fill-events, set-events, fill-byte-events, set-byte-events}
-use Rattle.compiler.proofs.Settings.{set-length, set-length-bound}
+use Rattle.compiler.specs.Promise.{Promise}
 use Rattle.compiler.proofs.Promise.{compile-draws}
-use Rattle.compiler.proofs.Tracked.{after-tracked, blank-tracked}
 
--- ---- no line takes more events than a fill of the whole glass by columns
-
-pub bytes-limit : (es : List ℕ) → byteEvents es ≤ length es
-bytes-limit [] = omega arith
-bytes-limit (e ∷ es) = go (ltb e 256) (bytes-limit es)
-  where
-    go : (t : Bool) → byteEvents es ≤ length es → cond t 1 0 + byteEvents es ≤ suc (length es)
-    go true h = omega arith
-    go false h = omega arith
-
-fill-limit : (q : Registers) (c0 c1 b0 b1 : ℕ) → c1 ≤ 100 → b1 ≤ 16 → fillCount 10 q c0 c1 b0 b1 ≤ 2727
-fill-limit q c0 c1 b0 b1 hc hb = go (eqb (q .v) 1)
-  where
-    columns : c1 - c0 + 1 ≤ 101
-    columns = omega arith
-
-    banks : b1 - b0 + 1 ≤ 17
-    banks = omega arith
-
-    down-limit : (c1 - c0 + 1) * (10 + (b1 - b0 + 1)) ≤ 101 * 27
-    down-limit = let each : 10 + (b1 - b0 + 1) ≤ 27 = omega arith in mul-le-mul columns each
-
-    across-limit : (b1 - b0 + 1) * (10 + (c1 - c0 + 1)) ≤ 17 * 111
-    across-limit = let each : 10 + (c1 - c0 + 1) ≤ 111 = omega arith in mul-le-mul banks each
-
-    go : (t : Bool) → cond t ((c1 - c0 + 1) * (10 + (b1 - b0 + 1))) ((b1 - b0 + 1) * (10 + (c1 - c0 + 1))) ≤ 2727
-    go true = down-limit
-    go false = omega (arith, across-limit)
-
-pub line-limit : (pins : ℕ) (l : Line) (q : Registers) → Valid l → length (lineEvents pins l q) ≤ 2727
-unfolding Valid lineEvents
-line-limit pins (Fill c0 c1 b0 b1 n) q s = omega (arith, fill-length pins q c0 c1 b0 b1 n, fill-limit q c0 c1 b0 b1 (s .last-column) (s .last-bank))
-line-limit pins (Set f n) q s =
-    omega (arith, set-room pins (Set f n) q f n (setTo f n q) refl refl, set-length f (setTo f n q), set-length-bound f)
+-- ---- how many events a list can have
 
 pub stream-limit : (pins : ℕ) (ls : List Line) (q : Registers) → AllValid ls → length (stream pins ls q) ≤ length ls * 2727
 unfolding stream AllValid
@@ -84,23 +49,6 @@ stream-limit pins (l ∷ ls) q s =
       line-limit pins l q (s .0),
       stream-limit pins ls (registersAfter l q) (s .1),
     )
-
--- ---- a line's events, counted
-
-module _ (pins : ℕ) (l : Line) (q : Registers) (s : Valid l) (hp : pins ≤ 3) where
-  pub fill-line-counts :
-      (c0 c1 b0 b1 n : ℕ) → l ≡ Fill c0 c1 b0 b1 n → {k : Counts} → k ≡ counts (fillCount 10 q c0 c1 b0 b1) (fillCount 8 q c0 c1 b0 b1)
-      → k ≡ countsOf (lineEvents pins l q)
-  fill-line-counts c0 c1 b0 b1 n e h =
-      h
-      ∙ ap (λ (z : ℕ). counts z (fillCount 8 q c0 c1 b0 b1)) (fill-events pins l q c0 c1 b0 b1 n _ e refl)
-      ∙ ap (λ (z : ℕ). counts (length (lineEvents pins l q)) z) (fill-byte-events pins l q c0 c1 b0 b1 n _ s hp e refl)
-
-  pub set-line-counts :
-      Tracked q → (f n : ℕ) → l ≡ Set f n → {k : ℕ} → k ≡ setLength f → counts (k * 2 + 3) (k * 2 + 1) ≡ countsOf (lineEvents pins l q)
-  set-line-counts tracked f n e {k} h =
-      ap (λ (z : ℕ). counts z (k * 2 + 1)) (set-events pins l q f n k e h)
-      ∙ ap (λ (z : ℕ). counts (length (lineEvents pins l q)) z) (set-byte-events pins l q f n k s tracked hp e h)
 
 -- ---- measuring
 

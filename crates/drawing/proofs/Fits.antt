@@ -3,7 +3,7 @@ use mathlib.Core.List.{List, [], _∷_}
 use Rattle.lists.specs.declared.Line.{Line}
 use Rattle.lists.specs.declared.Line.the-variants.{Fill, Set}
 use Rattle.lists.specs.Syntax.{ValidFill, Valid, AllValid}
-use Rattle.compiler.proofs.SetPlays.{SetFits}
+use Rattle.drawing.proofs.SetPlays.{SetFits}
 
 -- what a line that is accepted keeps to
 abbrev pub LineFits : Line → Type 0

@@ -6,28 +6,28 @@ use Prim.Native.Nat.{ℕ, _+_, _-_, _%_, _≤_, _<_, zero-le}
 use native.Mathlib.Decide.{ℕ-discrete}
 use native.Mathlib.Omega.{arith}
 use borrow.Author.Tests.{eq-eqb, ne-eqb, le-leb, leb-true}
-use lib.Dec.{eqb, leb, eqb→eq}
+use lib.Dec.{T, eqb, leb, eqb→eq}
 use lib.ListN.{getD, length}
 use Rattle.registers.specs.declared.Registers.{Registers}
-use Rattle.registers.specs.Encode.{rowByte, aimed, isGrey, hasField, rowFor}
+use Rattle.registers.specs.Encode.{rowByte, withParts, isGrey, hasField, rowFor}
 use Rattle.registers.specs.Places.{H, X, Y, GR, GS0, GS3}
 use Rattle.registers.specs.Record.{limits, put, blank, allowedRegisters}
 use Rattle.registers.specs.State.{State}
-use Rattle.registers.proofs.Below.{below-at, true-false}
+use Rattle.registers.proofs.Below.{allBelow, below-at, true-false}
 use Rattle.registers.proofs.Parts.{grey-limit}
 use Rattle.registers.proofs.Encode.{FitParts}
 use Rattle.registers.proofs.Put.{put-same, put-other, put-allowed}
 use Rattle.registers.proofs.TableTest.{rowNo}
 use Rattle.registers.proofs.Within.{both-left, both-right}
-use Rattle.chip.specs.Plays.{Plays, Sees, Bytes, message, Does, Leads}
+use Rattle.chip.specs.Plays.{Plays, Visible, Bytes, message, Does, Leads}
 use Rattle.chip.specs.Plays.Leads.{no-more, by}
 use Rattle.chip.proofs.Plays.{plays-weaken, message-plays}
 use Rattle.chip.proofs.Rows.{leads-bytes, row-does, return-does, page-does}
-use Rattle.compiler.specs.Plain.{setTo}
-use Rattle.compiler.specs.Stream.{pageOf, leave, enter, rowBytes, setCommands}
-use Rattle.compiler.proofs.FillPlays.{Shows}
-use Rattle.compiler.proofs.RunPlays.{seen-allowed, seen-page}
-use Rattle.compiler.proofs.SetRows.{at, simple-fits, aimed-at, partsFor, isApart, SimpleRow, simple-row, shows-target, blank-at, blank-self, put-at}
+use Rattle.drawing.specs.Plain.{setTo}
+use Rattle.drawing.specs.Stream.{pageOf, leave, enter, rowBytes, setCommands}
+use Rattle.drawing.proofs.FillPlays.{Shows}
+use Rattle.drawing.proofs.RunPlays.{seen-allowed, seen-page}
+use Rattle.drawing.proofs.SetRows.{at, simple-fits, with-parts-at, partsFor, isApart, SimpleRow, simple-row, shows-target, blank-at, blank-self, put-at}
 
 -- ---- one row in its page, from page 0 and back
 
@@ -50,10 +50,10 @@ module _ (f : ℕ) (row : SimpleRow f) (t r : Registers) (zero-page : r .h ≡ 0
   in-page-0 : page ≡ 0 → RowSet f t r
   in-page-0 e =
       record {
-        after = aimed (partsFor f) t r;
-        leads = subst (λ (p : ℕ). Leads (enter p ++ byte ∷ leave p) r (aimed (partsFor f) t r)) (sym e)
+        after = withParts (partsFor f) t r;
+        leads = subst (λ (p : ℕ). Leads (enter p ++ byte ∷ leave p) r (withParts (partsFor f) t r)) (sym e)
             (by (row-does (rowFor f) (row .listed) t fit r (omega arith) (e ∙ sym zero-page)) no-more);
-        fields = λ g n. aimed-at (partsFor f) (row .registers-only) t r g;
+        fields = λ g n. with-parts-at (partsFor f) (row .registers-only) t r g;
       }
 
   in-other-page : (page ≡ 0 → ⊥) → RowSet f t r
@@ -64,17 +64,17 @@ module _ (f : ℕ) (row : SimpleRow f) (t r : Registers) (zero-page : r .h ≡ 0
             (by (page-does page r zero-page (row .page))
             (by (row-does (rowFor f) (row .listed) t fit (put H page r) (row .page) refl) (by (return-does inside same-page) no-more)));
         fields = λ g n.
-            put-other H 0 inside g n ∙ aimed-at (partsFor f) (row .registers-only) t (put H page r) g
+            put-other H 0 inside g n ∙ with-parts-at (partsFor f) (row .registers-only) t (put H page r) g
             ∙ ap (λ (x : ℕ). cond (hasField g (partsFor f)) (at t g) x) (put-other H page r g n);
       }
     where
       inside : Registers
-      inside = aimed (partsFor f) t (put H page r)
+      inside = withParts (partsFor f) t (put H page r)
 
       same-page : inside .h ≤ 4
       same-page =
           subst (λ (h : ℕ). h ≤ 4)
-          (sym (aimed-at (partsFor f) (row .registers-only) t (put H page r) H ∙ ap (λ (b : Bool). cond b (at t H) page) (row .not-page)))
+          (sym (with-parts-at (partsFor f) (row .registers-only) t (put H page r) H ∙ ap (λ (b : Bool). cond b (at t H) page) (row .not-page)))
           (row .page)
 
       shape : enter page ++ byte ∷ leave page ≡ (8 + page) ∷ byte ∷ 1 ∷ []
@@ -150,8 +150,22 @@ set-simple f n fits plain apart r page ok =
 
 -- ---- the grey registers
 
-grey-row : (k : ℕ) → k < 4 → rowFor (GS0 + k) ≡ 17
-grey-row k h = eqb→eq (rowFor (GS0 + k)) 17 (below-at 4 (λ (k : ℕ). eqb (rowFor (GS0 + k)) 17) tt k h)
+pub grey-bounds : (f : ℕ) → isGrey f ≡ true → (GS0 ≤ f) × (f ≤ GS3)
+grey-bounds f e = (leb-true GS0 f (both-left (leb GS0 f) (leb f GS3) e), leb-true f GS3 (both-right (leb GS0 f) (leb f GS3) e))
+
+grey-rows : T (allBelow 29 (λ f. cond (isGrey f) (eqb (rowFor f) 17) true))
+grey-rows = tt
+
+grey-row : (f : ℕ) → isGrey f ≡ true → rowFor f ≡ 17
+grey-row f g =
+    let place : f < 29 = omega (arith, grey-bounds f g .1) in
+    eqb→eq (rowFor f) 17
+    (subst (λ (b : Bool). T (cond b (eqb (rowFor f) 17) true)) g (below-at 29 (λ f. cond (isGrey f) (eqb (rowFor f) 17) true) grey-rows f place))
+
+-- page return, page 3, the row that selects the register, its level, page return
+pub grey-commands : (f : ℕ) → isGrey f ≡ true → (t : Registers) → setCommands f t ≡ 1 ∷ 11 ∷ rowByte (rowNo 16) t ∷ rowByte (rowNo 17) t ∷ 1 ∷ []
+grey-commands f g t =
+    ap (λ (b : Bool). 1 ∷ rowBytes (cond b (rowFor GR ∷ rowFor f ∷ []) (rowFor f ∷ [])) t) g ∙ ap (λ (i : ℕ). 1 ∷ rowBytes (16 ∷ i ∷ []) t) (grey-row f g)
 
 module _ (k n : ℕ) (lk : k < 4) (ln : n ≤ 63) (r : Registers) (page : r .h ≤ 4) where
   -- what the registers are to be
@@ -227,26 +241,18 @@ module _ (k n : ℕ) (lk : k < 4) (ln : n ≤ 63) (r : Registers) (page : r .h �
       ap (λ (b : Bool). cond b (put (GS0 + k) n (put GR (GS0 + k - GS0) (blank r))) (put (GS0 + k) n (blank r))) is-grey
       ∙ ap (λ (x : ℕ). put (GS0 + k) n (put GR x (blank r))) (omega arith)
 
-  grey-bytes : (t : Registers) → setCommands (GS0 + k) t ≡ 1 ∷ 11 ∷ rowByte (rowNo 16) t ∷ rowByte (rowNo 17) t ∷ 1 ∷ []
-  grey-bytes t =
-      ap (λ (b : Bool). 1 ∷ rowBytes (cond b (rowFor GR ∷ rowFor (GS0 + k) ∷ []) (rowFor (GS0 + k) ∷ [])) t) is-grey
-      ∙ ap (λ (i : ℕ). 1 ∷ rowBytes (16 ∷ i ∷ []) t) (grey-row k lk)
-
   set-grey : Setting (GS0 + k) n r
   set-grey =
       let goal′ = put (GS0 + k) n (put GR k (blank r)) in
       record {
         after = put H 0 (put (GS0 + k) (at goal′ (GS0 + k)) (after-select k n lk ln r page));
         leads = subst (λ (bs : List ℕ). Leads bs r (put H 0 (put (GS0 + k) (at goal′ (GS0 + k)) (after-select k n lk ln r page))))
-            (sym (ap (setCommands (GS0 + k)) grey-target ∙ grey-bytes goal′)) (grey-leads k n lk ln r page);
+            (sym (ap (setCommands (GS0 + k)) grey-target ∙ grey-commands (GS0 + k) is-grey goal′)) (grey-leads k n lk ln r page);
         shows = grey-shows k n lk ln r page ∙ sym grey-target;
       }
 
 not-apart : (f : ℕ) → (f ≡ H → ⊥) → (f ≡ X → ⊥) → (f ≡ Y → ⊥) → isGrey f ≡ false → isApart f ≡ false
 not-apart f h x y g = simp (ne-eqb f H h, ne-eqb f X x, ne-eqb f Y y, g)
-
-pub grey-bounds : (f : ℕ) → isGrey f ≡ true → (GS0 ≤ f) × (f ≤ GS3)
-grey-bounds f e = (leb-true GS0 f (both-left (leb GS0 f) (leb f GS3) e), leb-true f GS3 (both-right (leb GS0 f) (leb f GS3) e))
 
 pub set-leads : (f n : ℕ) → SetFits f n → (r : Registers) → r .h ≤ 4 → allowedRegisters r ≡ true → Setting f n r
 set-leads f n fits r page ok = go (isGrey f) refl
@@ -270,12 +276,12 @@ pub set-plays :
 set-plays f n fits q m pins k s shows =
     subst
     (λ (q : Registers).
-    Sees (shows .full) m pins (length (message pins (setCommands f (setTo f n q))) + k) s
+    Visible (shows .full) m pins (length (message pins (setCommands f (setTo f n q))) + k) s
     → Plays (message pins (setCommands f (setTo f n q))) (Shows (setTo f n q) m pins k) s)
-    (shows .same) from-full (shows .sees)
+    (shows .same) from-full (shows .visible)
   where
     from-full :
-        Sees (shows .full) m pins (length (message pins (setCommands f (setTo f n (blank (shows .full))))) + k) s
+        Visible (shows .full) m pins (length (message pins (setCommands f (setTo f n (blank (shows .full))))) + k) s
         → Plays (message pins (setCommands f (setTo f n (blank (shows .full))))) (Shows (setTo f n (blank (shows .full))) m pins k) s
     from-full see =
         let r = shows .full in
@@ -283,5 +289,5 @@ set-plays f n fits q m pins k s shows =
         let page = seen-page r m pins (length (message pins bs) + k) s see in
         let ok = seen-allowed r m pins (length (message pins bs) + k) s see in
         let done = set-leads f n fits r page ok in
-        plays-weaken (message pins bs) (Sees (done .after) m pins k) (Shows (setTo f n (blank r)) m pins k) s
-        (λ t seen. record { full = done .after; sees = seen; same = done .shows }) (message-plays bs r (done .after) m pins k (done .leads) s see)
+        plays-weaken (message pins bs) (Visible (done .after) m pins k) (Shows (setTo f n (blank r)) m pins k) s
+        (λ t seen. record { full = done .after; visible = seen; same = done .shows }) (message-plays bs r (done .after) m pins k (done .leads) s see)

@@ -44,6 +44,6 @@ registersAfter (Fill c0 c1 b0 b1 n) r = r
 registersAfter (Set f n) r = setTo f n r
 
 -- the lines in order; no lines, no change
-abbrev pub plain : List Line → Picture → Picture
-plain [] p = p
-plain (l ∷ ls) p = plain ls (record { cells = cellsAfter l (p .cells); registers = registersAfter l (p .registers) })
+abbrev pub plainReading : List Line → Picture → Picture
+plainReading [] p = p
+plainReading (l ∷ ls) p = plainReading ls (record { cells = cellsAfter l (p .cells); registers = registersAfter l (p .registers) })

@@ -12,7 +12,7 @@ use Rattle.registers.specs.Table.{rows, noRow}
 use Rattle.chip.specs.Plays.{message, dataMessage}
 use Rattle.lists.specs.declared.Line.{Line}
 use Rattle.lists.specs.declared.Line.the-variants.{Fill, Set}
-use Rattle.compiler.specs.Plain.{setTo, registersAfter}
+use Rattle.drawing.specs.Plain.{setTo, registersAfter}
 
 -- ---- fills
 

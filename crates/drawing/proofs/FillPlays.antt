@@ -16,12 +16,12 @@ use Rattle.registers.specs.State.{State}
 use Rattle.registers.proofs.Below.{true-false}
 use Rattle.registers.proofs.Within.{register-bound, both-left, both-right}
 use Rattle.chip.specs.Rectangles.{In, Fills}
-use Rattle.chip.specs.Plays.{Plays, Sees}
+use Rattle.chip.specs.Plays.{Plays, Visible}
 use Rattle.chip.proofs.Plays.{plays-weaken}
 use Rattle.lists.specs.Syntax.{ValidFill}
-use Rattle.compiler.specs.Plain.{isInside, filledFrom, filled}
-use Rattle.compiler.specs.Stream.{across, down, fill, firstX}
-use Rattle.compiler.proofs.RunPlays.{Drawn, seen-allowed, across-plays, down-plays}
+use Rattle.drawing.specs.Plain.{isInside, filledFrom, filled}
+use Rattle.drawing.specs.Stream.{across, down, fill, firstX}
+use Rattle.drawing.proofs.RunPlays.{Drawn, seen-allowed, across-plays, down-plays}
 
 -- ---- the plain reading fills the same cells
 
@@ -84,9 +84,10 @@ module _ (t : Bool) (c0 c1 c : ℕ) (order : c0 ≤ c1) (last : c1 ≤ 100) (low
       go true a b = (omega arith, omega arith)
       go false a b = (omega arith, omega arith)
 
-first-low : (t : Bool) (c0 c1 : ℕ) → c0 ≤ c1 → c1 ≤ 100 → (cond t (100 - c1) c0 + (c1 - c0 + 1) ≤ 101) × (cond t (100 - c1) c0 ≤ 100)
-first-low true c0 c1 o l = (omega arith, omega arith)
-first-low false c0 c1 o l = (omega arith, omega arith)
+-- the columns of a fill are X-addresses of the glass
+pub first-x-limit : (t : Bool) (c0 c1 : ℕ) → c0 ≤ c1 → c1 ≤ 100 → (cond t (100 - c1) c0 + (c1 - c0 + 1) ≤ 101) × (cond t (100 - c1) c0 ≤ 100)
+first-x-limit true c0 c1 o l = (omega arith, omega arith)
+first-x-limit false c0 c1 o l = (omega arith, omega arith)
 
 -- ---- the fill
 
@@ -113,7 +114,7 @@ module _ (mx c0 c1 b0 b1 n : ℕ) (fits : ValidFill c0 c1 b0 b1 n) (m m′ : Lis
 -- a state that shows registers q, but H, X and Y, and the cells m
 pub record Shows (q : Registers) (m : List ℕ) (pins n : ℕ) (s : State) : Type 0 where
   pub full : Registers
-  pub sees : Sees full m pins n s
+  pub visible : Visible full m pins n s
   pub same : blank full ≡ q
 
 pub fill-plays :
@@ -129,18 +130,18 @@ fill-plays c0 c1 b0 b1 n fits q m pins k s shows = go (eqb (q .v) 1) refl
         (λ t d.
         record {
           full = d .full;
-          sees = subst (λ (x : List ℕ). Sees (d .full) x pins k t) (filled-plain (q .mx) c0 c1 b0 b1 n fits m (d .memory) (d .fills)) (d .sees);
+          visible = subst (λ (x : List ℕ). Visible (d .full) x pins k t) (filled-plain (q .mx) c0 c1 b0 b1 n fits m (d .memory) (d .fills)) (d .visible);
           same = d .same;
         })
         p
 
     low : (firstX (q .mx) c0 c1 + (c1 - c0 + 1) ≤ 101) × (firstX (q .mx) c0 c1 ≤ 100)
-    low = first-low (eqb (q .mx) 1) c0 c1 (fits .columns) (fits .last-column)
+    low = first-x-limit (eqb (q .mx) 1) c0 c1 (fits .columns) (fits .last-column)
 
     v-low : q .v ≤ 1
     v-low =
         subst (λ (v : ℕ). v ≤ 1) (ap (λ (x : Registers). x .v) (shows .same))
-        (register-bound (shows .full) (seen-allowed (shows .full) m pins (length (fill pins q c0 c1 b0 b1 n) + k) s (shows .sees)) «V»)
+        (register-bound (shows .full) (seen-allowed (shows .full) m pins (length (fill pins q c0 c1 b0 b1 n) + k) s (shows .visible)) «V»)
 
     go : (x : Bool) → eqb (q .v) 1 ≡ x → Plays (fill pins q c0 c1 b0 b1 n) (Shows q (filled c0 c1 b0 b1 n m) pins k) s
     go true e =
@@ -151,7 +152,7 @@ fill-plays c0 c1 b0 b1 n fits q m pins k s shows = go (eqb (q .v) 1) refl
         (down-plays (c1 - c0 + 1) (shows .full) q (firstX (q .mx) c0 c1) (b1 - b0 + 1) b0 n pins k m s (shows .same) (eqb-true _ _ e) (low .0)
         (omega (arith, fits .banks, fits .last-bank)) (omega (arith, fits .banks, fits .last-bank)) (omega (arith, fits .byte))
         (λ w. omega (arith, fits .six-bits (omega (arith, fits .banks))))
-        (subst (λ (x : Bool). Sees (shows .full) m pins (length (cond x D A) + k) s) e (shows .sees))))
+        (subst (λ (x : Bool). Visible (shows .full) m pins (length (cond x D A) + k) s) e (shows .visible))))
     go false e =
         let D = down pins q b0 (b1 - b0 + 1) n (firstX (q .mx) c0 c1) (c1 - c0 + 1) in
         let A = across pins q (firstX (q .mx) c0 c1) (c1 - c0 + 1) n b0 (b1 - b0 + 1) in
@@ -160,4 +161,4 @@ fill-plays c0 c1 b0 b1 n fits q m pins k s shows = go (eqb (q .v) 1) refl
         (across-plays (b1 - b0 + 1) (shows .full) q (firstX (q .mx) c0 c1) (c1 - c0 + 1) b0 n pins k m s (shows .same)
         (omega (arith, v-low, eqb-false (q .v) 1 e)) (low .0) (low .1) (omega (arith, fits .banks, fits .last-bank)) (omega (arith, fits .byte))
         (λ w. omega (arith, fits .six-bits (omega (arith, fits .banks))))
-        (subst (λ (x : Bool). Sees (shows .full) m pins (length (cond x D A) + k) s) e (shows .sees))))
+        (subst (λ (x : Bool). Visible (shows .full) m pins (length (cond x D A) + k) s) e (shows .visible))))
