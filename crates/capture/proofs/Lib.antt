@@ -5,4 +5,3 @@ pub mod Written
 pub mod Courses
 pub mod Feeds
 pub mod Laws
-pub mod Wrong

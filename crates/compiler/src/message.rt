@@ -28,9 +28,9 @@ pub fn set(out: &mut [u16], at: usize, pins: u8, field: u8, target: Registers) -
     requires { ⌜ at + (3 + 2 * length (setCommands field target)) ≤ length (now out) ⌝ }
     ensures { λ r. ⌜ Wrote (now (out .entry)) at (message pins (setCommands field target)) (now (out .exit)) r ⌝ }
 {
-    let said = setting::set_commands(field, target);
-    let bytes = said.bytes;
+    let asked = setting::set_commands(field, target);
+    let bytes = asked.bytes;
     let started = emit::pair(out, at, 256, emit::write_address(pins));
-    let told = commands(out, started, &bytes[..said.count]);
-    emit::put(out, told, 257)
+    let commanded = commands(out, started, &bytes[..asked.count]);
+    emit::put(out, commanded, 257)
 }

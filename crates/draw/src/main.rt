@@ -26,14 +26,14 @@ fn pins() -> u8 {
 // Whether the compiler takes the list. It is asked with no room for events: 10 then says that the list is good.
 fn is_good(chip: Chip, list: &[u8]) -> bool {
     let mut none = [0u16; 0];
-    let told = compiler::compile(chip, list, &mut none).numbers();
-    if told.number == 0 {
+    let numbers = compiler::compile(chip, list, &mut none).numbers();
+    if numbers.number == 0 {
         return true;
     }
-    if told.number == 10 {
+    if numbers.number == 10 {
         return true;
     }
-    output::refused(told.number, told.line);
+    output::refused(numbers.number, numbers.line);
     false
 }
 
@@ -45,9 +45,9 @@ fn draw_line(
     memory: &mut [u8],
     writers: &mut [u64],
 ) -> Chip {
-    let told = compiler::compile(chip, line, out).numbers();
-    let n = told.length as usize;
-    if told.number != 0 {
+    let numbers = compiler::compile(chip, line, out).numbers();
+    let n = numbers.length as usize;
+    if numbers.number != 0 {
         return chip;
     }
     if out.len() < n {

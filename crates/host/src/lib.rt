@@ -128,9 +128,9 @@ pub extern "C" fn pcf8820_compile(
         return 2;
     };
     let answer = compiler::compile(chip, text, out);
-    let told = answer.numbers();
-    *length = told.length;
-    *clocks = told.clocks;
-    *line = told.line;
-    told.number
+    let numbers = answer.numbers();
+    *length = numbers.length;
+    *clocks = numbers.clocks;
+    *line = numbers.line;
+    numbers.number
 }

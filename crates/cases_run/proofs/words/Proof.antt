@@ -1,8 +1,8 @@
 use Prim.Native.Nat.{_-_}
 use borrow.Author.Needs.{needs}
 use lib.ListN.{length}
-use Rattle.worked.proofs.words.Statement.{statement}
-use Rattle.worked.proofs.words.Tie as tie
+use Rattle.cases_run.proofs.words.Statement.{statement}
+use Rattle.cases_run.proofs.words.Tie as tie
 
 abbrev Inv-loop : tie.InvT-loop
 Inv-loop «record» i₀ i = Unit {0}

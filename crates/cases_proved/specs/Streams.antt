@@ -3,9 +3,9 @@ use mathlib.Core.List.{List, [], _∷_, _++_}
 use mathlib.Core.Path.{_≡_}
 use Prim.Native.Nat.{ℕ, _+_}
 use Prim.Native.String.{String}
-use Rattle.cases.specs.Cited.{length, H, DO, «V», MX, blank, State, message, dataMessage, bytes}
-use Rattle.cases.specs.Cited.{Line, lines, readingOf, linesOf, stream, Demand3, Draws}
-use Rattle.cases.specs.Start.{Setting, _is_, upon}
+use Rattle.cases_proved.specs.Cited.{length, H, DO, «V», MX, blank, State, message, dataMessage, bytes}
+use Rattle.cases_proved.specs.Cited.{Line, lines, readingOf, linesOf, stream, Demand3, Draws}
+use Rattle.cases_proved.specs.Start.{Setting, _is_, upon}
 
 -- an output for a drawing list: the registers that are set after reset, the list's text, and the events that stand in the output
 pub record Output : Type 0 where

@@ -4,7 +4,7 @@ use mathlib.Core.Path.{_≡_, sym, ap, subst, _∙_}
 use Prim.Native.Nat.{ℕ}
 use lib.Dec.{T, T-not, eqb, eqb→eq, eqb-refl}
 use Rattle.registers.proofs.Below.{and-left, and-right}
-use Rattle.cases.specs.Observed.{Observation, Distinguishes}
+use Rattle.cases_proved.specs.Observed.{Observation, Distinguishes}
 
 abbrev pub passes : {Program : Type 0} → Program → Observation Program → Bool
 passes definition o = eqb (o .observed definition) (o .right) && not (eqb (o .right) (o .wrong))

@@ -4,11 +4,11 @@ use mathlib.Core.List.{List, [], _∷_, _++_}
 use Prim.Native.Nat.{ℕ, suc, _+_, _*_}
 use Prim.Native.String.{String}
 use lib.Dec.{leb, eqb}
-use Rattle.cases.specs.Cited.{getD, length, replicate, Registers, Chip, DO, PD, «V», D, E, MX, MY, PS, X, Y, DP, DOF}
-use Rattle.cases.specs.Cited.{values, inPhase, State, state, EndlessBytes, stepOf}
-use Rattle.cases.specs.Cited.{bytes, sameBytes, Numbers, Result, compileOf, numbersOf}
-use Rattle.cases.specs.Cited.{Pixel, dark, undriven, uses, placeAt, pixelOf, shownNumber, ramRowOf, glassOf}
-use Rattle.cases.specs.Start.{Setting, _is_, chipWith, zeros, oneCell, viewed}
+use Rattle.cases_proved.specs.Cited.{getD, length, replicate, Registers, Chip, DO, PD, «V», D, E, MX, MY, PS, X, Y, DP, DOF}
+use Rattle.cases_proved.specs.Cited.{values, inPhase, State, state, EndlessBytes, stepOf}
+use Rattle.cases_proved.specs.Cited.{bytes, sameBytes, Numbers, Result, compileOf, numbersOf}
+use Rattle.cases_proved.specs.Cited.{Pixel, dark, undriven, uses, placeAt, pixelOf, shownNumber, ramRowOf, glassOf}
+use Rattle.cases_proved.specs.Start.{Setting, _is_, chipWith, zeros, oneCell, viewed}
 
 pub data Case : Type 0 where
   -- after reset, with these registers set, a display byte leaves these
@@ -24,7 +24,7 @@ pub data Case : Type 0 where
   -- after reset, with these registers set, this list compiles to these events, which take so many clocks
   streamed : List Setting → String → List ℕ → ℕ → Case
   -- after reset, this list's first line gives this number, 0 where it is accepted
-  judged : String → ℕ → Case
+  answeredBy : String → ℕ → Case
 
 -- ---- what a case says
 
@@ -75,8 +75,8 @@ isStream r es clocks =
     && sameBytes (r .out) (es ++ 999 ∷ [])
 
 -- the number, for line 1 where it is not 0
-abbrev pub isJudged : Numbers → ℕ → Bool
-isJudged told k = eqb (told .number) k && eqb (told .line) (cond (eqb k 0) 0 1)
+abbrev pub isAnswered : Numbers → ℕ → Bool
+isAnswered given k = eqb (given .number) k && eqb (given .line) (cond (eqb k 0) 0 1)
 
 unfoldable pub holds : Case → Bool
 holds (counter before after) = agrees after (stepOf 0 (prepared before true) .state .chip .registers)
@@ -85,7 +85,7 @@ holds (stored before b k n) = eqb (getD (stepOf b (prepared before true) .state 
 holds (greys before row gs) = useThese (viewed before) row gs
 holds (driven before rows others) = allDriven (viewed before) rows && noneDriven (viewed before) others
 holds (streamed before text es clocks) = isStream (compiled before text (length es + 1)) es clocks
-holds (judged text k) = isJudged (numbersOf (compiled [] text 100 .answer)) k
+holds (answeredBy text k) = isAnswered (numbersOf (compiled [] text 100 .answer)) k
 
 -- ---- the table
 
@@ -101,8 +101,8 @@ marked =
     ∷ streamed (MX is 1 ∷ []) "put\t5\t2\t167\n" (putEvents 0xDF 0xA7) 81
     ∷ streamed (DO is 1 ∷ []) "put\t5\t2\t167\n" (putEvents 0x85 0xE5) 81
     -- bank 16 takes six bits
-    ∷ judged "put\t0\t16\t64\n" 7
-    ∷ judged "put\t0\t16\t63\n" 0
+    ∷ answeredBy "put\t0\t16\t64\n" 7
+    ∷ answeredBy "put\t0\t16\t63\n" 0
     -- counter V = 0, X 100, Y 3: 0, 4
     ∷ counter («V» is 0 ∷ X is 100 ∷ Y is 3 ∷ []) (X is 0 ∷ Y is 4 ∷ [])
     -- V = 1, X 7, Y 16: 8, 0

@@ -2,10 +2,10 @@
 use mathlib.Core.List.{List, [], _∷_}
 use Prim.Native.Nat.{ℕ}
 use Prim.Native.String.{String}
-use Rattle.cases.specs.Behaviour.{cell, writer}
-use Rattle.cases.specs.Cited.{bytes, State, Replay, refusedBy, refusedAt, replayed}
-use Rattle.cases.specs.Observed.{Observation, _gives_not_}
-use Rattle.cases.specs.Start.{upon, zeros}
+use Rattle.cases_proved.specs.Behaviour.{cell, writer}
+use Rattle.cases_proved.specs.Cited.{bytes, State, Replay, refusedBy, refusedAt, replayed}
+use Rattle.cases_proved.specs.Observed.{Observation, _gives_not_}
+use Rattle.cases_proved.specs.Start.{upon, zeros}
 
 -- ---- a program that replays, and what can be seen of it
 
@@ -70,7 +70,7 @@ captureRows =
     -- a last line without its newline replayed
     ∷ badLine "pins\t0\n256" gives 2 not 0
     ∷ badLine "pins\t0\n256\nx" gives 3 not 0
-    -- an event that is not listed replayed; lines counted from 0; a later fault told
+    -- an event that is not listed replayed; lines counted from 0; a later fault given
     ∷ badLine "pins\t0\n256\n261\n257\n" gives 3 not 0
     ∷ badLine "pins\t0\n256\n261\n257\n" gives 3 not 2
     ∷ badLine "pins\t0\n261\nx\n" gives 2 not 3

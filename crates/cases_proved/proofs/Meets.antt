@@ -9,9 +9,9 @@ use lib.ListN.{getD, length}
 use Rattle.registers.proofs.Below.{and-left, and-right}
 use Rattle.text.proofs.Finding.{same-equal}
 use Rattle.chip.proofs.Plays.{plays-good, plays-run}
-use Rattle.cases.specs.Cited.{Line, State, values, ofValues, Picture, pictureOf, plainReading, Demand3}
-use Rattle.cases.specs.Cited.{Fit, isAcknowledged, refusalOf, stepOf}
-use Rattle.cases.specs.Cited.{before, played, Good, Plays, sameBytes}
+use Rattle.cases_proved.specs.Cited.{Line, State, values, ofValues, Picture, pictureOf, plainReading, Demand3}
+use Rattle.cases_proved.specs.Cited.{Fit, isAcknowledged, refusalOf, stepOf}
+use Rattle.cases_proved.specs.Cited.{before, played, Good, Plays, sameBytes}
 
 -- ---- the test
 

@@ -3,9 +3,9 @@
 use mathlib.Core.List.{List, [], _∷_}
 use Prim.Native.Nat.{ℕ}
 use Prim.Native.String.{String}
-use Rattle.cases.specs.Cited.{«V», X, Chip, Numbers, Result, numbersOf, compileOf, bytes, getD, replicate}
-use Rattle.cases.specs.Observed.{Observation, _gives_not_}
-use Rattle.cases.specs.Start.{Setting, _is_, chipWith}
+use Rattle.cases_proved.specs.Cited.{«V», X, Chip, Numbers, Result, numbersOf, compileOf, bytes, getD, replicate}
+use Rattle.cases_proved.specs.Observed.{Observation, _gives_not_}
+use Rattle.cases_proved.specs.Start.{Setting, _is_, chipWith}
 
 -- ---- a compiler, and what can be seen of it
 
@@ -17,20 +17,20 @@ abbrev pub compiled : List Setting → List ℕ → ℕ → Compiler → Result
 compiled before text room f = f (chipWith before) text (replicate room 999)
 
 -- the numbers given back
-abbrev pub told : List Setting → String → ℕ → Compiler → Numbers
-told before text room f = numbersOf (compiled before (bytes text) room f .answer)
+abbrev pub numbersGiven : List Setting → String → ℕ → Compiler → Numbers
+numbersGiven before text room f = numbersOf (compiled before (bytes text) room f .answer)
 
 abbrev pub number : List Setting → String → ℕ → Compiler → ℕ
-number before text room f = told before text room f .number
+number before text room f = numbersGiven before text room f .number
 
 abbrev pub line : List Setting → String → ℕ → Compiler → ℕ
-line before text room f = told before text room f .line
+line before text room f = numbersGiven before text room f .line
 
-abbrev pub eventsTold : List Setting → String → ℕ → Compiler → ℕ
-eventsTold before text room f = told before text room f .length
+abbrev pub eventsGiven : List Setting → String → ℕ → Compiler → ℕ
+eventsGiven before text room f = numbersGiven before text room f .length
 
 abbrev pub clocks : List Setting → String → ℕ → Compiler → ℕ
-clocks before text room f = told before text room f .clocks
+clocks before text room f = numbersGiven before text room f .clocks
 
 -- a word of the output
 abbrev pub word : ℕ → List Setting → String → ℕ → Compiler → ℕ
@@ -56,7 +56,7 @@ answerRows =
     ∷ numberOfEmptyLines (X is 101 ∷ []) 4097 gives 2 not 9
     ∷ number (X is 101 ∷ []) "x\n" 0 gives 2 not 6
     ∷ number (X is 101 ∷ []) "put\t5\t2\t167\n" 0 gives 2 not 10
-    -- ---- bad lines: not told, told without their line, lines counted from 0
+    -- ---- bad lines: not given, given without their line, lines counted from 0
     ∷ number [] "put\t5\t2\t167\nput\t0\t16\t64\n" 100 gives 7 not 0
     ∷ line [] "put\t5\t2\t167\nput\t0\t16\t64\n" 100 gives 2 not 0
     ∷ line [] "put\t5\t2\t167\nput\t0\t16\t64\n" 100 gives 2 not 1
@@ -64,7 +64,7 @@ answerRows =
     -- the last of them, or the lowest number
     ∷ line [] "put\t0\t16\t64\nx\n" 100 gives 1 not 2
     ∷ number [] "put\t0\t16\t64\nx\n" 100 gives 7 not 6
-    -- 10 told before a bad line, and the lines before it written
+    -- 10 numbersGiven before a bad line, and the lines before it written
     ∷ number [] "put\t5\t2\t167\nput\t0\t16\t64\n" 0 gives 7 not 10
     ∷ word 0 [] "put\t5\t2\t167\nput\t0\t16\t64\n" 100 gives 999 not 256
     -- 7 before 6
@@ -90,27 +90,27 @@ answerRows =
     -- fields that no line can name
     ∷ number [] "set\tx\t5\n" 100 gives 6 not 0
     ∷ number [] "set\tgr\t2\n" 100 gives 6 not 0
-    -- ---- 10: an output that is too short written, or told by another number, or with another length
+    -- ---- 10: an output that is too short written, or under another number, or with another length
     ∷ number [] "put\t5\t2\t167\n" 10 gives 10 not 0
     ∷ number [] "put\t5\t2\t167\n" 10 gives 10 not 9
     ∷ word 0 [] "put\t5\t2\t167\n" 10 gives 999 not 256
-    ∷ eventsTold [] "put\t5\t2\t167\n" 10 gives 11 not 10
+    ∷ eventsGiven [] "put\t5\t2\t167\n" 10 gives 11 not 10
     -- a word more asked for than is needed, and the rest of the output written
     ∷ number [] "put\t5\t2\t167\n" 11 gives 0 not 10
     ∷ word 10 [] "put\t5\t2\t167\n" 12 gives 257 not 999
     ∷ word 11 [] "put\t5\t2\t167\n" 12 gives 999 not 0
     -- ---- length and clocks: invented, of one run, with START and STOP, one for the other
-    ∷ eventsTold [] "" 0 gives 0 not 1
-    ∷ eventsTold [] "put\t5\t2\t167\n" 11 gives 11 not 81
+    ∷ eventsGiven [] "" 0 gives 0 not 1
+    ∷ eventsGiven [] "put\t5\t2\t167\n" 11 gives 11 not 81
     ∷ clocks [] "put\t5\t2\t167\n" 11 gives 81 not 99
-    ∷ eventsTold [] "fill\t5\t7\t2\t3\t167\n" 26 gives 26 not 16
+    ∷ eventsGiven [] "fill\t5\t7\t2\t3\t167\n" 26 gives 26 not 16
     ∷ clocks [] "fill\t5\t7\t2\t3\t167\n" 26 gives 198 not 234
-    ∷ eventsTold («V» is 1 ∷ []) "fill\t5\t7\t2\t3\t167\n" 36 gives 36 not 26
+    ∷ eventsGiven («V» is 1 ∷ []) "fill\t5\t7\t2\t3\t167\n" 36 gives 36 not 26
     ∷ clocks («V» is 1 ∷ []) "fill\t5\t7\t2\t3\t167\n" 36 gives 270 not 324
-    ∷ eventsTold [] "set\tv\t1\n" 7 gives 7 not 6
+    ∷ eventsGiven [] "set\tv\t1\n" 7 gives 7 not 6
     ∷ clocks [] "set\tv\t1\n" 7 gives 45 not 63
-    ∷ eventsTold [] "set\tmx\t1\n" 11 gives 11 not 7
-    ∷ eventsTold [] "set\tgs2\t33\n" 13 gives 13 not 11
+    ∷ eventsGiven [] "set\tmx\t1\n" 11 gives 11 not 7
+    ∷ eventsGiven [] "set\tgs2\t33\n" 13 gives 13 not 11
     ∷ clocks [] "set\tgs2\t33\n" 13 gives 99 not 117
-    ∷ eventsTold [] "set\tv\t1\nfill\t5\t7\t2\t3\t167\n" 43 gives 43 not 33
+    ∷ eventsGiven [] "set\tv\t1\nfill\t5\t7\t2\t3\t167\n" 43 gives 43 not 33
     ∷ []

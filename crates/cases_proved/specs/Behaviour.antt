@@ -2,7 +2,7 @@
 use mathlib.Core.Bool.{cond}
 use mathlib.Core.List.{List, [], _∷_}
 use Prim.Native.Nat.{ℕ, _+_, _*_}
-use Rattle.cases.specs.Cited.{getD, values, State, Answer, After, answerNumber, stepOf, Outcome, runOf, lastAnswer}
+use Rattle.cases_proved.specs.Cited.{getD, values, State, Answer, After, answerNumber, stepOf, Outcome, runOf, lastAnswer}
 
 -- ---- a chip, and what can be seen of it
 

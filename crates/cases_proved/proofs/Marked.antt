@@ -3,13 +3,13 @@ use mathlib.Core.List.{[], _∷_}
 use mathlib.Core.Path.{refl}
 use native.Mathlib.Omega.{arith}
 use lib.Dec.{T}
-use Rattle.cases.specs.Cited.{Fill, bytes, Demand3, allowed, rowAt, commandOf, storedOf, placeOf, nextAddress, refusalOf, applied, accepted, stepOf}
-use Rattle.cases.specs.Cited.{entryRefusal, eventRefusal, isAddressed, phaseAfterAddress, phaseAfterLastRead, acknowledge, isAcknowledged, controlled, readByte, pulsed, sensed, counted, columnOf}
-use Rattle.cases.specs.Cited.{placeRefusal, glassRefusal, glassOf, numberOf, lineOf, readingFrom, readingOf, setTo, lineEvents, stream, compileOf}
-use Rattle.cases.specs.Start.{upon}
-use Rattle.cases.specs.Table.{eachPasses}
+use Rattle.cases_proved.specs.Cited.{Fill, bytes, Demand3, allowed, rowAt, commandOf, storedOf, placeOf, nextAddress, refusalOf, applied, accepted, stepOf}
+use Rattle.cases_proved.specs.Cited.{entryRefusal, eventRefusal, isAddressed, phaseAfterAddress, phaseAfterLastRead, acknowledge, isAcknowledged, controlled, readByte, pulsed, sensed, counted, columnOf}
+use Rattle.cases_proved.specs.Cited.{placeRefusal, glassRefusal, glassOf, numberOf, lineOf, readingFrom, readingOf, setTo, lineEvents, stream, compileOf}
+use Rattle.cases_proved.specs.Start.{upon}
+use Rattle.cases_proved.specs.Table.{eachPasses}
 use Rattle.drawing.proofs.Demand3.{text-demand-3}
-use Rattle.cases.specs.Marked.{holds, marked, putEvents}
+use Rattle.cases_proved.specs.Marked.{holds, marked, putEvents}
 
 pub all-marked : T (eachPasses holds marked)
 unfolding holds marked

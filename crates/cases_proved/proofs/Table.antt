@@ -3,7 +3,7 @@ use mathlib.Core.Bool.{Bool}
 use mathlib.Core.List.{List, [], _∷_}
 use lib.Dec.{T}
 use Rattle.registers.proofs.Below.{and-left, and-right}
-use Rattle.cases.specs.Table.{EachRow, eachPasses}
+use Rattle.cases_proved.specs.Table.{EachRow, eachPasses}
 
 pub each-row :
     {Row : Type 0} (P : Row → Type 0) (test : Row → Bool) → ((row : Row) → T (test row) → P row)

@@ -7,15 +7,15 @@ use native.Mathlib.Omega.{arith}
 use lib.Dec.{T, T-not, ltb, ltb→lt}
 use lib.ListN.{length, take}
 use Rattle.registers.proofs.Below.{and-left, and-right}
-use Rattle.cases.specs.Cited.{Line, Reading, faulty, lines, linesOf, bytes, sameBytes, blank, Fit, Demand3, Draws}
-use Rattle.cases.specs.Cited.{allowed, rowAt, commandOf, storedOf, placeOf, nextAddress, refusalOf, applied, accepted, stepOf}
-use Rattle.cases.specs.Cited.{entryRefusal, eventRefusal, isAddressed, phaseAfterAddress, phaseAfterLastRead, acknowledge, isAcknowledged, controlled, readByte, pulsed, sensed, counted, columnOf}
-use Rattle.cases.specs.Cited.{numberOf, lineOf, readingFrom, readingOf, filled, setTo, lineEvents, stream}
-use Rattle.cases.specs.Start.{zeros}
-use Rattle.cases.specs.Table.{EachRow, eachPasses}
-use Rattle.cases.specs.Streams.{Output, start, linesIn, Wrong, Other, wrongOutputs, otherOutputs}
-use Rattle.cases.proofs.Meets.{meets, meets-holds, meets-is, not-same, is-true}
-use Rattle.cases.proofs.Table.{each-row}
+use Rattle.cases_proved.specs.Cited.{Line, Reading, faulty, lines, linesOf, bytes, sameBytes, blank, Fit, Demand3, Draws}
+use Rattle.cases_proved.specs.Cited.{allowed, rowAt, commandOf, storedOf, placeOf, nextAddress, refusalOf, applied, accepted, stepOf}
+use Rattle.cases_proved.specs.Cited.{entryRefusal, eventRefusal, isAddressed, phaseAfterAddress, phaseAfterLastRead, acknowledge, isAcknowledged, controlled, readByte, pulsed, sensed, counted, columnOf}
+use Rattle.cases_proved.specs.Cited.{numberOf, lineOf, readingFrom, readingOf, filled, setTo, lineEvents, stream}
+use Rattle.cases_proved.specs.Start.{zeros}
+use Rattle.cases_proved.specs.Table.{EachRow, eachPasses}
+use Rattle.cases_proved.specs.Streams.{Output, start, linesIn, Wrong, Other, wrongOutputs, otherOutputs}
+use Rattle.cases_proved.proofs.Meets.{meets, meets-holds, meets-is, not-same, is-true}
+use Rattle.cases_proved.proofs.Table.{each-row}
 
 -- ---- the tests
 

@@ -1,9 +1,9 @@
 -- Wrong glasses: what a chosen chip and memory show, and what a wrong glass would show of them.
 use mathlib.Core.List.{List, [], _∷_, _++_}
 use Prim.Native.Nat.{ℕ, _+_}
-use Rattle.cases.specs.Cited.{PD, D, E, MX, MY, PS, X, DP, DOF, Chip, Shown, Cell, shownNumber, cellNumber, glassOf, cellOf, replicate}
-use Rattle.cases.specs.Observed.{Observation, _gives_not_}
-use Rattle.cases.specs.Start.{Setting, _is_, oneCell, viewed}
+use Rattle.cases_proved.specs.Cited.{PD, D, E, MX, MY, PS, X, DP, DOF, Chip, Shown, Cell, shownNumber, cellNumber, glassOf, cellOf, replicate}
+use Rattle.cases_proved.specs.Observed.{Observation, _gives_not_}
+use Rattle.cases_proved.specs.Start.{Setting, _is_, oneCell, viewed}
 
 -- ---- a glass, and what can be seen of it
 

@@ -2,8 +2,8 @@ use mathlib.Core.Path.{_≡_}
 use Prim.Native.Nat.{_-_}
 use borrow.Author.Needs.{needs}
 use lib.ListN.{length}
-use Rattle.worked.proofs.answers.Statement.{statement}
-use Rattle.worked.proofs.answers.Tie as tie
+use Rattle.cases_run.proofs.answers.Statement.{statement}
+use Rattle.cases_run.proofs.answers.Tie as tie
 
 abbrev Inv-loop : tie.InvT-loop
 Inv-loop record₀ memory₀ writers₀ events i₀ «record» memory writers i = (length «record» ≡ length record₀) × (length memory ≡ length memory₀) × (length writers ≡ length writers₀)

@@ -1,7 +1,7 @@
 use Prim.Native.Nat.{_-_}
 use borrow.Author.Needs.{needs}
-use Rattle.worked.proofs.cells.Statement.{statement}
-use Rattle.worked.proofs.cells.Tie as tie
+use Rattle.cases_run.proofs.cells.Statement.{statement}
+use Rattle.cases_run.proofs.cells.Tie as tie
 
 abbrev Inv-loop : tie.InvT-loop
 Inv-loop memory writers place₀ place = Unit {0}
