@@ -19,7 +19,8 @@ use Rattle.capture_lines.specs.Line.{newline}
 use Rattle.capture_lines.specs.SoFar.{withByte, scannedFrom}
 use Rattle.capture.specs.declared.End.{End}
 use Rattle.capture.specs.declared.End.the-variants as ends
-use Rattle.capture.specs.Feeding.{Playing, playing, lineAfter, played, endedLine, withNext, bytesFed, lineAllowed, keptRefusal, fedUnless, endOf, endUnless}
+use Rattle.capture.specs.Feeding.{Playing, playing, lineAfter, played, endedLine, withNext, bytesFed, lineAllowed, keptRefusal, fedUnless}
+use Rattle.capture.specs.Feeding.{endOf, endUnless}
 
 -- ---- a line of a known kind
 

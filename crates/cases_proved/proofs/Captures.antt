@@ -1,7 +1,8 @@
 -- Wrong replays are shut out: one computed test over the table.
 use lib.Dec.{T}
 use Rattle.cases_proved.specs.Cited.{allowed, rowAt, commandOf, storedOf, placeOf, nextAddress, refusalOf, applied, accepted, numberOf, pinsOf, replayOf}
-use Rattle.cases_proved.specs.Cited.{entryRefusal, eventRefusal, isAddressed, phaseAfterAddress, acknowledge, controlled, counted, columnOf, runFrom, runOf}
+use Rattle.cases_proved.specs.Cited.{entryRefusal, eventRefusal, isAddressed, phaseAfterAddress, acknowledge, controlled, counted, columnOf}
+use Rattle.cases_proved.specs.Cited.{runFrom, runOf}
 use Rattle.cases_proved.specs.Captures.{captureRows}
 use Rattle.cases_proved.specs.Observed.{Distinguishes}
 use Rattle.cases_proved.specs.Table.{EachRow, eachPasses}

@@ -1,7 +1,8 @@
 -- Wrong chips are shut out: one computed test over the table.
 use lib.Dec.{T}
 use Rattle.cases_proved.specs.Cited.{allowed, rowAt, commandOf, storedOf, placeOf, nextAddress, refusalOf, applied, accepted, stepOf, runOf}
-use Rattle.cases_proved.specs.Cited.{entryRefusal, eventRefusal, isAddressed, phaseAfterAddress, phaseAfterLastRead, acknowledge, isAcknowledged, controlled, readByte, pulsed, sensed, counted, columnOf, runFrom, lastAnswer}
+use Rattle.cases_proved.specs.Cited.{entryRefusal, eventRefusal, isAddressed, phaseAfterAddress, phaseAfterLastRead, acknowledge}
+use Rattle.cases_proved.specs.Cited.{isAcknowledged, controlled, readByte, pulsed, sensed, counted, columnOf, runFrom, lastAnswer}
 use Rattle.cases_proved.specs.Behaviour.{chip}
 use Rattle.cases_proved.specs.Chips.{busEvents, commandBytes, displayData, refusalsAndRuns, chipRows}
 use Rattle.cases_proved.specs.Observed.{Distinguishes}

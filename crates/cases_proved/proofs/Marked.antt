@@ -3,8 +3,10 @@ use mathlib.Core.List.{[], _∷_}
 use mathlib.Core.Path.{refl}
 use native.Mathlib.Omega.{arith}
 use lib.Dec.{T}
-use Rattle.cases_proved.specs.Cited.{Fill, bytes, Demand3, allowed, rowAt, commandOf, storedOf, placeOf, nextAddress, refusalOf, applied, accepted, stepOf}
-use Rattle.cases_proved.specs.Cited.{entryRefusal, eventRefusal, isAddressed, phaseAfterAddress, phaseAfterLastRead, acknowledge, isAcknowledged, controlled, readByte, pulsed, sensed, counted, columnOf}
+use Rattle.cases_proved.specs.Cited.{Fill, bytes, Demand3, allowed, rowAt, commandOf, storedOf, placeOf, nextAddress, refusalOf, applied}
+use Rattle.cases_proved.specs.Cited.{accepted, stepOf}
+use Rattle.cases_proved.specs.Cited.{entryRefusal, eventRefusal, isAddressed, phaseAfterAddress, phaseAfterLastRead, acknowledge}
+use Rattle.cases_proved.specs.Cited.{isAcknowledged, controlled, readByte, pulsed, sensed, counted, columnOf}
 use Rattle.cases_proved.specs.Cited.{placeRefusal, glassRefusal, glassOf, numberOf, lineOf, readingFrom, readingOf, setTo, lineEvents, stream, compileOf}
 use Rattle.cases_proved.specs.Start.{upon}
 use Rattle.cases_proved.specs.Table.{eachPasses}

@@ -9,7 +9,8 @@ use lib.ListN.{length, take}
 use Rattle.registers.proofs.Below.{and-left, and-right}
 use Rattle.cases_proved.specs.Cited.{Line, Reading, faulty, lines, linesOf, bytes, sameBytes, blank, Fit, Demand3, Draws}
 use Rattle.cases_proved.specs.Cited.{allowed, rowAt, commandOf, storedOf, placeOf, nextAddress, refusalOf, applied, accepted, stepOf}
-use Rattle.cases_proved.specs.Cited.{entryRefusal, eventRefusal, isAddressed, phaseAfterAddress, phaseAfterLastRead, acknowledge, isAcknowledged, controlled, readByte, pulsed, sensed, counted, columnOf}
+use Rattle.cases_proved.specs.Cited.{entryRefusal, eventRefusal, isAddressed, phaseAfterAddress, phaseAfterLastRead, acknowledge}
+use Rattle.cases_proved.specs.Cited.{isAcknowledged, controlled, readByte, pulsed, sensed, counted, columnOf}
 use Rattle.cases_proved.specs.Cited.{numberOf, lineOf, readingFrom, readingOf, filled, setTo, lineEvents, stream}
 use Rattle.cases_proved.specs.Start.{zeros}
 use Rattle.cases_proved.specs.Table.{EachRow, eachPasses}

@@ -3,8 +3,10 @@
 use mathlib.Core.List.{List, [], _∷_, _++_}
 use Prim.Native.Nat.{ℕ, _+_, _-_, _^_}
 use Rattle.cases_proved.specs.Cited.{H, DO, PD, «V», D, MX, X, Y, SM, GR, GS0, GS2, GS3, DOF, DM, EC}
-use Rattle.cases_proved.specs.Behaviour.{Behaviour, register, count, status, lastRs, cell, writer, leave, answer, runLeaves, runDone, runRefusal, runAnswer}
-use Rattle.cases_proved.specs.Behaviour.{START, STOP, READ, READLAST, RESET, sensor, nothing, acknowledged, notAcknowledged, byteRead, commands, displayBytes}
+use Rattle.cases_proved.specs.Behaviour.{Behaviour, register, count, status, lastRs, cell, writer, leave, answer, runLeaves, runDone}
+use Rattle.cases_proved.specs.Behaviour.{runRefusal, runAnswer}
+use Rattle.cases_proved.specs.Behaviour.{START, STOP, READ, READLAST, RESET, sensor, nothing, acknowledged, notAcknowledged, byteRead, commands}
+use Rattle.cases_proved.specs.Behaviour.{displayBytes}
 use Rattle.cases_proved.specs.Observed.{Observation, _gives_not_}
 use Rattle.cases_proved.specs.Start.{_is_, upon, counting, lent, withPins}
 

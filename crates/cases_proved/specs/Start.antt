@@ -1,7 +1,8 @@
 -- The states that the cases start from: a chip after reset with some registers set.
 use mathlib.Core.List.{List, [], _∷_}
 use Prim.Native.Nat.{ℕ, _+_, _*_}
-use Rattle.cases_proved.specs.Cited.{Registers, Chip, State, state, places, put, resetRegisters, resetChip, withRegisters, replicate, set, GS0, GS1, GS2, GS3}
+use Rattle.cases_proved.specs.Cited.{Registers, Chip, State, state, places, put, resetRegisters, resetChip, withRegisters, replicate, set, GS0}
+use Rattle.cases_proved.specs.Cited.{GS1, GS2, GS3}
 
 -- a register and its value
 pub record Setting : Type 0 where

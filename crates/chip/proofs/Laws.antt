@@ -17,7 +17,8 @@ use Rattle.engine.proofs.Refusals.{entry-fit}
 use Rattle.chip.specs.Effects.{displayed}
 use Rattle.chip.specs.LastWriter.{PlaceAfter, LastWriter}
 use Rattle.chip.specs.Phases.{awaitsData, awaitsCommand, ignoresBytes, phaseAfterIgnored}
-use Rattle.chip.specs.Promised.{Refused, Nothing, Acknowledged, NotAcknowledged, Read, nothingStored, Fit, entryRefusal, refusalOf, isAddressed, acknowledge, phaseAfterAddress, controlled, phaseAfterLastRead, pulsed, sensed, commandOf}
+use Rattle.chip.specs.Promised.{Refused, Nothing, Acknowledged, NotAcknowledged, Read, nothingStored, Fit, entryRefusal, refusalOf, isAddressed}
+use Rattle.chip.specs.Promised.{acknowledge, phaseAfterAddress, controlled, phaseAfterLastRead, pulsed, sensed, commandOf}
 use Rattle.chip.specs.Runs.{continued, StepByStep}
 use Rattle.chip.specs.When.{When}
 use Rattle.chip.proofs.Events.{by-phase, in-known-phase, command-at, display-step, ignored-at}

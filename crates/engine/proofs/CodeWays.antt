@@ -10,7 +10,7 @@ use Rattle.registers.specs.declared.Registers.{Registers}
 use Rattle.registers.specs.declared.Chip.{Chip}
 use Rattle.registers.specs.declared.Phase.{Phase}
 use Rattle.registers.specs.declared.Phase.the-variants.{Idle, AddressAwaited, Ignoring, ControlAwaited, OneByte, EndlessBytes, Reading, ReadEnded}
-use Rattle.registers.specs.Record.{inPhase, withRegisters}
+use Rattle.registers.specs.Record.{phaseRs, inPhase, withRegisters}
 use Rattle.registers.specs.Refusals.{_then_}
 use Rattle.registers.specs.State.{State, state}
 use Rattle.commands.specs.Command.{commandOf}
@@ -19,7 +19,7 @@ use Rattle.engine.specs.declared.answer.Answer.{Answer}
 use Rattle.engine.specs.declared.answer.Answer.the-variants.{Refused, Nothing, Acknowledged}
 use Rattle.engine.specs.declared.event.Event.{Event}
 use Rattle.engine.specs.Event.{eventOf, isByte}
-use Rattle.engine.specs.Phases.{awaitsContent, contentRs, phaseAfterContent}
+use Rattle.engine.specs.Phases.{awaitsContent, phaseAfterContent}
 use Rattle.engine.specs.Run.{Outcome, outcome, runFrom, runOf, unlessStopped, answerUnless, answerFrom, lastAnswer}
 use Rattle.engine.specs.Step.{After, after, nothingStored, contentOf, onByte, applied, accepted, counted}
 use Rattle.engine.specs.Step.{entryRefusal, eventRefusal, refusalOf, unlessRefused, stepOf}
@@ -49,7 +49,7 @@ in-known-phase told phase b number s a e h = subst (λ (p : Phase). a ≡ onByte
 -- where content is awaited, the phase says its RS and what comes after it
 in-content-phase :
     (p : Phase) (b number : ℕ) (s : State) → awaitsContent p ≡ true
-    → contentOf (contentRs p) (phaseAfterContent p) b number s ≡ onByte p b number s
+    → contentOf (phaseRs p) (phaseAfterContent p) b number s ≡ onByte p b number s
 in-content-phase Idle b number s t = cc
 in-content-phase AddressAwaited b number s t = cc
 in-content-phase Ignoring b number s t = cc
@@ -61,7 +61,7 @@ in-content-phase ReadEnded b number s t = cc
 
 pub content-taken :
     (p next : Phase) (rs awaits : Bool) (b number : ℕ) (s : State) (a : After)
-    → awaits ≡ awaitsContent p → awaits ≡ true → rs ≡ contentRs p → next ≡ phaseAfterContent p → a ≡ contentOf rs next b number s
+    → awaits ≡ awaitsContent p → awaits ≡ true → rs ≡ phaseRs p → next ≡ phaseAfterContent p → a ≡ contentOf rs next b number s
     → a ≡ onByte p b number s
 content-taken p next rs awaits b number s a e t er en h = h ∙ rw (er, en) (in-content-phase p b number s (sym e ∙ t))
 

@@ -36,16 +36,6 @@ awaitsContent (EndlessBytes rs) = true
 awaitsContent Reading = false
 awaitsContent ReadEnded = false
 
-abbrev pub contentRs : Phase → Bool
-contentRs Idle = false
-contentRs AddressAwaited = false
-contentRs Ignoring = false
-contentRs ControlAwaited = false
-contentRs (OneByte rs) = rs
-contentRs (EndlessBytes rs) = rs
-contentRs Reading = false
-contentRs ReadEnded = false
-
 -- a single byte is followed by a control byte, endless bytes by more of them
 abbrev pub phaseAfterContent : Phase → Phase
 phaseAfterContent Idle = Idle

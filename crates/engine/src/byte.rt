@@ -6,7 +6,7 @@ ghost use Prim.Native.Nat.{ℕ};
 ghost use Rattle.registers.specs.Record.{inPhase};
 ghost use Rattle.registers.specs.State.{state};
 ghost use Rattle.engine.specs.declared.answer.Answer.the-variants.{NotAcknowledged};
-ghost use Rattle.engine.specs.Phases.{isAddressed, phaseAfterAddress, phaseAfterControl, rsOf, awaitsContent, contentRs, phaseAfterContent};
+ghost use Rattle.engine.specs.Phases.{isAddressed, phaseAfterAddress, phaseAfterControl, rsOf, awaitsContent, phaseAfterContent};
 ghost use Rattle.engine.specs.Step.{after, acknowledge, controlled, contentOf, onByte};
 use crate::answer::Answer;
 use crate::step::Stepped;
@@ -82,21 +82,6 @@ fn awaits_content(phase: Phase) -> bool
         Phase::ControlAwaited => false,
         Phase::OneByte(_) => true,
         Phase::EndlessBytes(_) => true,
-        Phase::Reading => false,
-        Phase::ReadEnded => false,
-    }
-}
-
-fn content_rs(phase: Phase) -> bool
-    ensures { λ r. ⌜ r ≡ contentRs phase ⌝ }
-{
-    match phase {
-        Phase::Idle => false,
-        Phase::AddressAwaited => false,
-        Phase::Ignoring => false,
-        Phase::ControlAwaited => false,
-        Phase::OneByte(rs) => rs,
-        Phase::EndlessBytes(rs) => rs,
         Phase::Reading => false,
         Phase::ReadEnded => false,
     }
@@ -197,7 +182,7 @@ pub fn on_byte(byte: u8, number: u64, chip: Chip, memory: &mut [u8], writers: &m
 {
     let phase = chip.phase;
     if awaits_content(phase) {
-        let rs = content_rs(phase);
+        let rs = phase.rs();
         let next = phase_after_content(phase);
         return content(rs, next, byte, number, chip, memory, writers);
     }

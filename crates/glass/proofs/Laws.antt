@@ -18,7 +18,8 @@ use Rattle.glass.specs.Glass.{placeRefusal, glassRefusal, ramRowOf, cell
 use Rattle.glass.specs.When.{PlaceWhen, GlassWhen}
 use Rattle.glass.proofs.Pixels.{ram-bound, place-of}
 use Rattle.glass.proofs.Refusals.{place-exactly, glass-exactly}
-use Rattle.glass.proofs.Views.{changed-refusal, mirrored-refusal, flipped-row, my-bound, refused-by, refused-place-by, found-at, shown-through, never-refused, dark-either, dark-by, level-bound}
+use Rattle.glass.proofs.Views.{changed-refusal, mirrored-refusal, flipped-row, my-bound, refused-by, refused-place-by, found-at, shown-through}
+use Rattle.glass.proofs.Views.{never-refused, dark-either, dark-by, level-bound}
 
 -- ---- refusals and answers
 

@@ -10,7 +10,7 @@ use lib.Dec.{eqb, ltb}
 use lib.ListN.{getD, length}
 use Rattle.registers.specs.declared.Phase.{Phase}
 use Rattle.registers.specs.declared.Phase.the-variants.{Idle, AddressAwaited, Ignoring, ControlAwaited, OneByte, EndlessBytes, Reading, ReadEnded}
-use Rattle.registers.specs.Record.{ofValues}
+use Rattle.registers.specs.Record.{phaseRs, ofValues}
 use Rattle.registers.specs.State.{State, state}
 use Rattle.engine.specs.declared.answer.Answer.{Answer}
 use Rattle.engine.specs.declared.answer.Answer.the-variants.{Refused, Nothing, Acknowledged, NotAcknowledged, Read}
@@ -29,7 +29,7 @@ use Rattle.chip.proofs.Laws.{stays-fit, count-law, run-steps, last-writer}
 use Rattle.lists.specs.declared.Line.{Line}
 use Rattle.drawing.specs.Demand3.{Demand3}
 use Rattle.drawing.specs.Plain.{pictureOf, plainReading}
-use Rattle.record_words.specs.Words.{STATUS, COUNT, phaseRs, bit, standsFor, chipOf, wordsOf}
+use Rattle.record_words.specs.Words.{STATUS, COUNT, bit, standsFor, chipOf, wordsOf}
 use Rattle.record_words.proofs.Laws.{words-chip-words, chip-words-chip, allowed-stands}
 use Rattle.record_words.proofs.Stands.{stands-at}
 use Rattle.host.specs.Calls.{noRecord, Stepped, afterStep, stepCall, Ran, ran, afterRun, runCall}

@@ -13,9 +13,9 @@ use lib.Seq.{drop-cons, take-suc, set-at, length-take-le}
 use Rattle.registers.specs.declared.Chip.{Chip}
 use Rattle.registers.specs.declared.Registers.{Registers}
 use Rattle.registers.specs.declared.Phase.{Phase}
-use Rattle.registers.specs.Record.{limits, within, values, ofValues}
+use Rattle.registers.specs.Record.{phaseRs, limits, within, values, ofValues}
 use Rattle.record_words.specs.declared.Read.the-variants.{Record, NoRecord}
-use Rattle.record_words.specs.Words.{wordLimits, restLimits, recordLength, standsFor, chipOf, wordsOf, phaseOf, phaseNumber, phaseRs, bit, isSet, readOf, stored}
+use Rattle.record_words.specs.Words.{wordLimits, restLimits, recordLength, standsFor, chipOf, wordsOf, phaseOf, phaseNumber, bit, isSet, readOf, stored}
 use Rattle.record_words.proofs.Stands.{in-words, spelled}
 
 -- ---- the test of the words

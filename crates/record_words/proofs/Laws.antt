@@ -11,12 +11,13 @@ use lib.ListN.{getD}
 use Rattle.registers.specs.declared.Chip.{Chip}
 use Rattle.registers.specs.declared.Phase.{Phase}
 use Rattle.registers.specs.declared.Phase.the-variants.{Idle, AddressAwaited, Ignoring, ControlAwaited, OneByte, EndlessBytes, Reading, ReadEnded}
-use Rattle.registers.specs.Record.{allowed, within, values}
+use Rattle.registers.specs.Record.{phaseRs, allowed, within, values}
 use Rattle.registers.proofs.Below.{allBelow, below-at}
 use Rattle.registers.proofs.Within.{both-left, both-right}
 use Rattle.registers.proofs.Tables.{tabulated}
 use Rattle.record_words.specs.declared.Read.the-variants.{Record, NoRecord}
-use Rattle.record_words.specs.Words.{wordLimits, recordLength, standsFor, chipOf, wordsOf, phaseOf, phaseNumber, phaseRs, rsFits, bit, isSet, readOf, readNumber, stored}
+use Rattle.record_words.specs.Words.{wordLimits, recordLength, standsFor, chipOf, wordsOf, phaseOf, phaseNumber, rsFits, bit, isSet, readOf}
+use Rattle.record_words.specs.Words.{readNumber, stored}
 use Rattle.record_words.proofs.Stands.{true-of, in-words, stands-length, stands-within, stands-at, stands-rs}
 
 -- ---- words, record, words

@@ -9,7 +9,7 @@ use Rattle.registers.specs.declared.Phase.{Phase}
 use Rattle.registers.specs.declared.Phase.the-variants.{Idle, AddressAwaited, Ignoring, ControlAwaited, OneByte, EndlessBytes, Reading, ReadEnded}
 use Rattle.record_words.specs.declared.Read.{Read}
 use Rattle.record_words.specs.declared.Read.the-variants.{Record, NoRecord}
-use Rattle.registers.specs.Record.{limits, values, ofValues, within}
+use Rattle.registers.specs.Record.{phaseRs, limits, values, ofValues, within}
 
 -- where the words stand: 0..28 the registers in document 01's order, then these
 abbrev pub PINS : ℕ
@@ -65,16 +65,6 @@ phaseNumber (OneByte rs) = 4
 phaseNumber (EndlessBytes rs) = 5
 phaseNumber Reading = 6
 phaseNumber ReadEnded = 7
-
-abbrev pub phaseRs : Phase → Bool
-phaseRs Idle = false
-phaseRs AddressAwaited = false
-phaseRs Ignoring = false
-phaseRs ControlAwaited = false
-phaseRs (OneByte rs) = rs
-phaseRs (EndlessBytes rs) = rs
-phaseRs Reading = false
-phaseRs ReadEnded = false
 
 abbrev pub bit : Bool → ℕ
 bit b = cond b 1 0

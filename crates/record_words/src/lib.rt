@@ -120,7 +120,7 @@ fn write_all(chip: Chip, words: &mut [u64])
     words[30] = wide(chip.status);
     words[31] = bit(chip.last_rs);
     words[32] = phase::number(phase);
-    words[33] = bit(phase::rs(phase));
+    words[33] = bit(phase.rs());
     words[34] = chip.count;
 }
 

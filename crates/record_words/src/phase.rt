@@ -1,7 +1,7 @@
 // The bus phases by the host's numbers.
 ghost use mathlib.Core.Path.{_≡_};
 ghost use Prim.Native.Nat.{_≤_};
-ghost use Rattle.record_words.specs.Words.{phaseOf, phaseNumber, phaseRs};
+ghost use Rattle.record_words.specs.Words.{phaseOf, phaseNumber};
 use registers::Phase;
 
 pub fn of(number: u64, rs: bool) -> Phase
@@ -32,21 +32,5 @@ pub fn number(phase: Phase) -> u64
         Phase::EndlessBytes(_) => 5,
         Phase::Reading => 6,
         Phase::ReadEnded => 7,
-    }
-}
-
-// The phase's RS; a phase without one has 0.
-pub fn rs(phase: Phase) -> bool
-    ensures { λ r. ⌜ r ≡ phaseRs phase ⌝ }
-{
-    match phase {
-        Phase::Idle => false,
-        Phase::AddressAwaited => false,
-        Phase::Ignoring => false,
-        Phase::ControlAwaited => false,
-        Phase::OneByte(rs) => rs,
-        Phase::EndlessBytes(rs) => rs,
-        Phase::Reading => false,
-        Phase::ReadEnded => false,
     }
 }

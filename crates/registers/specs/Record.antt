@@ -9,7 +9,7 @@ use Rattle.text.specs.Text.{bytes}
 use Rattle.registers.specs.declared.Registers.{Registers}
 use Rattle.registers.specs.declared.Chip.{Chip}
 use Rattle.registers.specs.declared.Phase.{Phase}
-use Rattle.registers.specs.declared.Phase.the-variants.{Idle}
+use Rattle.registers.specs.declared.Phase.the-variants.{Idle, AddressAwaited, Ignoring, ControlAwaited, OneByte, EndlessBytes, Reading, ReadEnded}
 
 -- a register of the bit table: its name, how many bits it has, the largest value that it takes, and its value after a reset
 pub record Register : Type 0 where
@@ -97,6 +97,17 @@ blank r = put 0 0 (put 9 0 (put 10 0 r))
 
 abbrev pub resetRegisters : Registers
 resetRegisters = ofValues resets
+
+-- the RS of the byte or bytes awaited; a phase that awaits none has 0
+abbrev pub phaseRs : Phase → Bool
+phaseRs Idle = false
+phaseRs AddressAwaited = false
+phaseRs Ignoring = false
+phaseRs ControlAwaited = false
+phaseRs (OneByte rs) = rs
+phaseRs (EndlessBytes rs) = rs
+phaseRs Reading = false
+phaseRs ReadEnded = false
 
 abbrev pub resetChip : ℕ → Chip
 resetChip pins =

@@ -1,6 +1,6 @@
 // The chip's record as plain data: registers, bus phase and the rest, their limits and reset values, and the row methods.
 ghost use mathlib.Core.Path.{_≡_};
-ghost use Rattle.registers.specs.Record.{resetChip, allowedRegisters, allowed, inPhase, withRegisters};
+ghost use Rattle.registers.specs.Record.{phaseRs, resetChip, allowedRegisters, allowed, inPhase, withRegisters};
 
 mod bytes;
 pub mod encoding;
@@ -101,6 +101,24 @@ impl Registers {
             & (self.dm <= 1)
             & (self.ec <= 1)
             & (self.oc <= 1)
+    }
+}
+
+impl Phase {
+    // The RS of the byte or bytes awaited; a phase that awaits none has 0.
+    pub fn rs(self) -> bool
+        ensures { λ r. ⌜ r ≡ phaseRs self ⌝ }
+    {
+        match self {
+            Phase::Idle => false,
+            Phase::AddressAwaited => false,
+            Phase::Ignoring => false,
+            Phase::ControlAwaited => false,
+            Phase::OneByte(rs) => rs,
+            Phase::EndlessBytes(rs) => rs,
+            Phase::Reading => false,
+            Phase::ReadEnded => false,
+        }
     }
 }
 

@@ -1,7 +1,10 @@
 // The command rows of the data sheet's Table 2: each takes the registers and hands them back, changing only its own fields.
 // NOP and row block swapping change none and need no method.
 ghost use mathlib.Core.Path.{_≡_};
-ghost use Rattle.registers.specs.Table.{taken, pageReturn, instructionSet, selectFunction, setY, setX, displayControl, externalDisplayControl, biasSystem, biasSystemHalf, displayPart, generatorControl, generatorConfiguration, temperatureControl, temperatureMeasurement, vlcdControl, greyRegister, greyLevel, displayOff, oscillatorSetting, nop, rowBlockSwapping};
+ghost use Rattle.registers.specs.Table.{taken, nop, pageReturn, instructionSet, selectFunction, setY, setX};
+ghost use Rattle.registers.specs.Table.{displayControl, externalDisplayControl, biasSystem, biasSystemHalf, displayPart};
+ghost use Rattle.registers.specs.Table.{generatorControl, generatorConfiguration, temperatureControl, temperatureMeasurement, vlcdControl};
+ghost use Rattle.registers.specs.Table.{greyRegister, greyLevel, displayOff, oscillatorSetting, rowBlockSwapping};
 use crate::Registers;
 
 impl Registers {

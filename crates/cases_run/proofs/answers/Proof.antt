@@ -6,7 +6,8 @@ use Rattle.cases_run.proofs.answers.Statement.{statement}
 use Rattle.cases_run.proofs.answers.Tie as tie
 
 abbrev Inv-loop : tie.InvT-loop
-Inv-loop record₀ memory₀ writers₀ events i₀ «record» memory writers i = (length «record» ≡ length record₀) × (length memory ≡ length memory₀) × (length writers ≡ length writers₀)
+Inv-loop record₀ memory₀ writers₀ events i₀ «record» memory writers i =
+    (length «record» ≡ length record₀) × (length memory ≡ length memory₀) × (length writers ≡ length writers₀)
 
 abbrev μ-loop : tie.MeasureT-loop
 μ-loop record₀ memory₀ writers₀ events i₀ «record» memory writers i = length events - i

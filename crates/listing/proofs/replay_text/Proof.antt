@@ -49,7 +49,8 @@ unfolding meaning
 returns-3 c =
     let test = c .before .before .before .before .before .before in
     let args = test .before .before .before .before .before .args in
-    text-known _ _ (args .memory .now) (args .writers .now) (args .out .now) _ _ (c .before .before .before .before .enum-told .given .1) (test .before .of-lengths .ensures) (test .if1 .left) (c .before .before .refused .ensures)
+    text-known _ _ (args .memory .now) (args .writers .now) (args .out .now) _ _ (c .before .before .before .before .enum-told .given .1)
+    (test .before .of-lengths .ensures) (test .if1 .left) (c .before .before .refused .ensures)
 
 same-length-2 : tie.Need-same-length-2
 same-length-2 c = search needs
@@ -59,7 +60,8 @@ unfolding meaning
 returns-4 c =
     let test = c .before .before .before .before .before .before .before in
     let args = test .before .before .before .before .before .args in
-    text-known _ _ (args .memory .now) (args .writers .now) (args .out .now) _ _ (c .before .before .before .before .before .end2 .given .1) (test .before .of-lengths .ensures) (test .if1 .left) (c .before .before .refused2 .ensures)
+    text-known _ _ (args .memory .now) (args .writers .now) (args .out .now) _ _ (c .before .before .before .before .before .end2 .given .1)
+    (test .before .of-lengths .ensures) (test .if1 .left) (c .before .before .refused2 .ensures)
 
 same-length-3 : tie.Need-same-length-3
 same-length-3 c = search needs
@@ -69,7 +71,8 @@ unfolding meaning
 returns-5 c =
     let test = c .before .before .before .before .before .before in
     let args = test .before .before .before .before .before .args in
-    text-known _ _ (args .memory .now) (args .writers .now) (args .out .now) _ _ (c .before .before .before .before .enum-told2 .given .1) (test .before .of-lengths .ensures) (test .if1 .left) (c .before .before .listing .ensures)
+    text-known _ _ (args .memory .now) (args .writers .now) (args .out .now) _ _ (c .before .before .before .before .enum-told2 .given .1)
+    (test .before .of-lengths .ensures) (test .if1 .left) (c .before .before .listing .ensures)
 
 pub replay-text-spec : {M : Type 1} → statement M
 replay-text-spec =

@@ -7,8 +7,8 @@ use Rattle.engine.proofs.byte.on_byte.Tie as tie
 awaits-content-requires : tie.Need-awaits-content-requires
 awaits-content-requires c κs = search needs
 
-content-rs-requires : tie.Need-content-rs-requires
-content-rs-requires c κs = search needs
+rs-requires : tie.Need-rs-requires
+rs-requires c κs = search needs
 
 phase-after-content-requires : tie.Need-phase-after-content-requires
 phase-after-content-requires c κs = search needs
@@ -29,7 +29,7 @@ returns c =
     let rs = next .before in
     let awaits = rs .before .before in
     content-taken (awaits .before .before .before .args .chip .phase) _ _ _ _ _ _ _ (awaits .awaits-content .ensures) (rs .before .if1 .taken)
-    (rs .content-rs .ensures) (next .phase-after-content .ensures) (taken .content .ensures)
+    (rs .rs .ensures) (next .phase-after-content .ensures) (taken .content .ensures)
 
 on-plain-byte-requires : tie.Need-on-plain-byte-requires
 on-plain-byte-requires c κs = sym (c .before .awaits-content .ensures) ∙ c .if1 .left
@@ -42,7 +42,7 @@ on-byte-spec =
     tie.close
     (tie.spec
     awaits-content-requires
-    content-rs-requires
+    rs-requires
     phase-after-content-requires
     content-requires
     same-length
