@@ -91,25 +91,27 @@ first-x-limit false c0 c1 o l = (omega arith, omega arith)
 
 -- ---- the fill
 
-module _ (mx c0 c1 b0 b1 n : ℕ) (fits : ValidFill c0 c1 b0 b1 n) (m m′ : List ℕ) (fills : Fills (In mx (firstX mx c0 c1) (c1 - c0 + 1) b0 (b1 - b0 + 1)) n m m′) where
-  pub filled-plain : m′ ≡ filled c0 c1 b0 b1 n m
-  filled-plain =
-      ext-getD 0 m′ (filled c0 c1 b0 b1 n m) (fills .same-length ∙ sym (filled-length c0 c1 b0 b1 n m))
-      (λ i h. let l : i < length m = subst (λ (k : ℕ). i < k) (fills .same-length) h in
-      at i l (isInside c0 c1 b0 b1 i) refl ∙ sym (filled-at c0 c1 b0 b1 n m i l))
-    where
-      at : (i : ℕ) → i < length m → (t : Bool) → isInside c0 c1 b0 b1 i ≡ t → getD m′ i 0 ≡ cond (isInside c0 c1 b0 b1 i) n (getD m i 0)
-      at i l true e =
-          let w = inside-bounds c0 c1 b0 b1 i e in
-          let x = in-left (eqb mx 1) c0 c1 (i % 101) (fits .columns) (fits .last-column) (omega arith) (w .first-column) (w .last-column) in
-          fills .inside i l (record { left = x .0; right = x .1; top = w .first-bank; bottom = omega (arith, w .last-bank, fits .banks) })
-          ∙ sym (ap (λ (t : Bool). cond t n (getD m i 0)) e)
-      at i l false e =
-          fills .outside i
-          (λ w. let x = left-in (eqb mx 1) c0 c1 (i % 101) (fits .columns) (fits .last-column) (omega arith) (w .left) (w .right) in
-          true-false (sym (bounds-inside c0 c1 b0 b1 i
-          (record { first-column = x .0; last-column = x .1; first-bank = w .top; last-bank = omega (arith, w .bottom, fits .banks) })) ∙ e))
-          ∙ sym (ap (λ (t : Bool). cond t n (getD m i 0)) e)
+module _ (mx c0 c1 b0 b1 n : ℕ) (fits : ValidFill c0 c1 b0 b1 n) (m m′ : List ℕ)
+    (fills : Fills (In mx (firstX mx c0 c1) (c1 - c0 + 1) b0 (b1 - b0 + 1)) n m m′)
+  where
+    pub filled-plain : m′ ≡ filled c0 c1 b0 b1 n m
+    filled-plain =
+        ext-getD 0 m′ (filled c0 c1 b0 b1 n m) (fills .same-length ∙ sym (filled-length c0 c1 b0 b1 n m))
+        (λ i h. let l : i < length m = subst (λ (k : ℕ). i < k) (fills .same-length) h in
+        at i l (isInside c0 c1 b0 b1 i) refl ∙ sym (filled-at c0 c1 b0 b1 n m i l))
+      where
+        at : (i : ℕ) → i < length m → (t : Bool) → isInside c0 c1 b0 b1 i ≡ t → getD m′ i 0 ≡ cond (isInside c0 c1 b0 b1 i) n (getD m i 0)
+        at i l true e =
+            let w = inside-bounds c0 c1 b0 b1 i e in
+            let x = in-left (eqb mx 1) c0 c1 (i % 101) (fits .columns) (fits .last-column) (omega arith) (w .first-column) (w .last-column) in
+            fills .inside i l (record { left = x .0; right = x .1; top = w .first-bank; bottom = omega (arith, w .last-bank, fits .banks) })
+            ∙ sym (ap (λ (t : Bool). cond t n (getD m i 0)) e)
+        at i l false e =
+            fills .outside i
+            (λ w. let x = left-in (eqb mx 1) c0 c1 (i % 101) (fits .columns) (fits .last-column) (omega arith) (w .left) (w .right) in
+            true-false (sym (bounds-inside c0 c1 b0 b1 i
+            (record { first-column = x .0; last-column = x .1; first-bank = w .top; last-bank = omega (arith, w .bottom, fits .banks) })) ∙ e))
+            ∙ sym (ap (λ (t : Bool). cond t n (getD m i 0)) e)
 
 -- a state that shows registers q, but H, X and Y, and the cells m
 pub record Shows (q : Registers) (m : List ℕ) (pins n : ℕ) (s : State) : Type 0 where
@@ -118,7 +120,8 @@ pub record Shows (q : Registers) (m : List ℕ) (pins n : ℕ) (s : State) : Typ
   pub same : blank full ≡ q
 
 pub fill-plays :
-    (c0 c1 b0 b1 n : ℕ) → ValidFill c0 c1 b0 b1 n → (q : Registers) (m : List ℕ) (pins k : ℕ) (s : State) → Shows q m pins (length (fill pins q c0 c1 b0 b1 n) + k) s
+    (c0 c1 b0 b1 n : ℕ) → ValidFill c0 c1 b0 b1 n → (q : Registers) (m : List ℕ) (pins k : ℕ) (s : State)
+    → Shows q m pins (length (fill pins q c0 c1 b0 b1 n) + k) s
     → Plays (fill pins q c0 c1 b0 b1 n) (Shows q (filled c0 c1 b0 b1 n m) pins k) s
 fill-plays c0 c1 b0 b1 n fits q m pins k s shows = go (eqb (q .v) 1) refl
   where

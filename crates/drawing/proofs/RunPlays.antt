@@ -89,8 +89,11 @@ run-down r q same x n y b pins k m s hx hy hn hb bank =
 
 -- ---- run after run
 
-split-room : (r : Registers) (m : List ℕ) (pins n : ℕ) (xs ys : List ℕ) (s : State) → Visible r m pins (length (xs ++ ys) + n) s → Visible r m pins (length xs + (length ys + n)) s
-split-room r m pins n xs ys s see = subst (λ (k : ℕ). Visible r m pins k s) (ap (λ (k : ℕ). k + n) (length-append xs ys) ∙ add-assoc (length xs) (length ys) n) see
+split-room :
+    (r : Registers) (m : List ℕ) (pins n : ℕ) (xs ys : List ℕ) (s : State) → Visible r m pins (length (xs ++ ys) + n) s
+    → Visible r m pins (length xs + (length ys + n)) s
+split-room r m pins n xs ys s see =
+    subst (λ (k : ℕ). Visible r m pins k s) (ap (λ (k : ℕ). k + n) (length-append xs ys) ∙ add-assoc (length xs) (length ys) n) see
 
 -- a first rectangle is drawn by xs, and ys draws a second upon whatever that left: together they draw the third
 then-draws :
@@ -168,6 +171,7 @@ down-plays (suc k) r q x n y b pins room m s same v hk hy hn hb bank see =
     (λ r′ m₁ t same′ see′. down-plays k r′ q (x + 1) n y b pins room m₁ t same′ v (omega arith) hy hn hb bank see′)
   where
     narrow :
-        (p : ℕ) → In (q .mx) x (suc k) y n p → (In (q .mx) (x + 1) k y n p → ⊥) → Dec (mirroredBy (q .mx) (p % 101) < x + 1) → mirroredBy (q .mx) (p % 101) < x + 1
+        (p : ℕ) → In (q .mx) x (suc k) y n p → (In (q .mx) (x + 1) k y n p → ⊥) → Dec (mirroredBy (q .mx) (p % 101) < x + 1)
+        → mirroredBy (q .mx) (p % 101) < x + 1
     narrow p i o (yes h) = h
     narrow p i o (no h) = absurd (o (record { left = omega arith; right = omega (arith, i .right); top = i .top; bottom = i .bottom }))

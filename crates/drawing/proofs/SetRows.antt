@@ -81,7 +81,9 @@ simple-fits (p ∷ ps) s t h = (
 )
   where
     go : (x : Target) → T (simple x (p .width)) → held x t < 2 ^ (p .width)
-    go (register f) b = lt-of-le-of-lt (register-bound t h f) (ltb→lt (getD limits f 0) (2 ^ (p .width)) (and-left (ltb (getD limits f 0) (2 ^ (p .width))) (ltb f 29) b))
+    go (register f) b =
+        lt-of-le-of-lt (register-bound t h f)
+        (ltb→lt (getD limits f 0) (2 ^ (p .width)) (and-left (ltb (getD limits f 0) (2 ^ (p .width))) (ltb f 29) b))
     go (bounded f) b = absurd b
     go selected b = absurd b
     go unheld b = absurd b
