@@ -24,7 +24,7 @@ Refusal = collections.namedtuple("Refusal", "path line text")
 
 FACTS = [
     ("two numbers are to be equal", r"the two types are `Path \S+ (\d+) (?!\1`)\d+`\s+\(expected\)"),
-    ("values break the goal", r"`omega`: the goal does not follow .*the goal fails, at"),
+    ("values break the goal", r"`omega`: the (goal|part `\S+` of the goal) does not follow .*the (goal|part) fails, at"),
     ("the proof has another number",
      r"where one has `(\d+)`\s+\(expected\).*? and the other has `(?!\1`)\d+`\s+\(found\)"),
     ("a computed test is not true", r"expected type `T \(.*but this has type `Prim\.Unit"),
@@ -35,6 +35,9 @@ FACTS = [
     ("the proof has another type",
      r"the two (types|sides) (first )?differ|the two types are|expected type `.*but this has type"),
 ]
+# Kinds that a proof which merely does not fit gives too. They count only of an edit that keeps the shape of the code, word for
+# word, with another name or number, or that says that a harmless twin of it was tried and is proved.
+UNSURE = ["nothing to rewrite", "the proof has another type"]
 NO_FACT = r"has no `Need-|is not a field of|not in scope|does not use the library|cannot be unfolded here"
 OTHER_FACT = r"expected type `[^`]*\bNeed-[^`]*`,?\s+but this has type `[^`]*\bNeed-"
 FOLLOWS = r"not admitted"
@@ -99,6 +102,18 @@ def changes(edit):
             yield file, line[len("old: "):]
 
 
+def keeps_shape(edit):
+    """Whether each text of an edit of code differs from the one it replaces in names and numbers alone."""
+    text = edit.read_text()
+    if re.search(r"^file: (?!src/)", text, re.M):
+        return False
+    for old, new in re.findall(r"^old: (.*)\nnew: (.*)$", text, re.M):
+        old, new = (re.findall(r"\w+|[^\w\s]", part) for part in (old, new))
+        if len(old) != len(new) or any(a != b and not (a[0].isalnum() and b[0].isalnum()) for a, b in zip(old, new)):
+            return False
+    return True
+
+
 def edited(crate, edit):
     """The names of the declarations that an edit changes, by file."""
     names = collections.defaultdict(set)
@@ -152,6 +167,8 @@ def judged(crate, edit, copy, log):
         return None, f"of no known kind: {shown}"
     if not stands_at(copy, first, set().union(*names.values()) - {""}):
         return None, f"not at what was edited: {shown}"
+    if kind in UNSURE and not keeps_shape(edit) and "twin" not in edit.read_text():
+        return None, f"the code has another shape, and no harmless twin is named: {shown}"
     return kind, None
 
 
@@ -168,8 +185,8 @@ def main(names):
             faults += [f"{edit}: {fault}"] if fault else []
     project.finish("edits", faults)
     print("edits: " + ", ".join(f"{kind}: {number_of}" for kind, number_of in kinds.most_common()))
-    print(f"edits: {number} must-fail edits, each first refused at a fact of what it edits; "
-          "whether that fact is false or its proof unfit, a log does not tell")
+    print(f"edits: {number} must-fail edits, each first refused at a fact of what it edits; where a log does not tell a false "
+          "fact from an unfit proof, the edit keeps the code's shape or names a harmless twin")
 
 
 if __name__ == "__main__":

@@ -2,7 +2,7 @@
 use mathlib.Core.List.{List, [], _∷_, _++_}
 use mathlib.Core.Path.{_≡_, refl, sym, _∙_, subst}
 use Prim.Native.Nat.{ℕ, zero, suc, _+_, _<_, suc-le-suc, zero-le}
-use native.Mathlib.Nat.{add-assoc, add-zero, le-of-suc-le-suc}
+use native.Mathlib.Nat.{suc-ne-zero, add-assoc, add-zero, le-of-suc-le-suc}
 use native.Mathlib.Numerals.{one-add}
 use native.Mathlib.Omega.{arith}
 use lib.ListN.{getD}
@@ -54,7 +54,7 @@ from-fit n (e ∷ es) s fit = go (refusalOf e s) _ (from-fit (n + 1) es (accepte
 -- nothing was done, and the first event is refused
 refused-first : (e : ℕ) (es : List ℕ) (s : State) (k : ℕ) → refusalOf e s ≡ suc k → StepByStep (e ∷ es) s (outcome 0 (suc k) s)
 refused-first e es s k q =
-    record { ends = refl; no-more = zero-le; accepted = λ i h. absurd (omega arith); stopped = λ h. sym q; finished = λ h. absurd (omega arith) }
+    record { ends = refl; no-more = zero-le; accepted = λ i h. absurd (omega arith); stopped = λ h. sym q; refused = λ h. suc-ne-zero k; finished = λ h. absurd (omega arith) }
 
 -- the first event is done, and the rest follow from the state that its step leaves
 first-done :
@@ -66,6 +66,7 @@ first-done e es s o q fit rest =
       no-more = suc-le-suc (rest .no-more);
       accepted = each;
       stopped = λ h. rest .stopped (le-of-suc-le-suc h);
+      refused = λ h. rest .refused (le-of-suc-le-suc h);
       finished = λ h. rest .finished (omega (arith, h)) ∙ fit-entry _ (stays e s q fit) ∙ sym (fit-entry s fit);
     }
   where
@@ -79,7 +80,7 @@ first-done e es s o q fit rest =
 pub from-steps : (es : List ℕ) (s : State) → Fit s → StepByStep es s (runFrom 0 es s)
 unfolding runFrom
 from-steps [] s fit =
-    record { ends = refl; no-more = zero-le; accepted = λ i h. absurd (omega arith); stopped = λ h. absurd (omega arith); finished = λ h. sym (fit-entry s fit) }
+    record { ends = refl; no-more = zero-le; accepted = λ i h. absurd (omega arith); stopped = λ h. absurd (omega arith); refused = λ h. absurd (omega arith); finished = λ h. sym (fit-entry s fit) }
 from-steps (e ∷ es) s fit = go (refusalOf e s) refl (from-steps es (accepted e s .state) (accepted-fit e s fit))
   where
     go :
@@ -97,5 +98,5 @@ from-steps (e ∷ es) s fit = go (refusalOf e s) refl (from-steps es (accepted e
 pub entry-stops : (es : List ℕ) (s : State) (k : ℕ) → entryRefusal s ≡ suc k → StepByStep es s (outcome 0 (suc k) s)
 unfolding refusalOf
 entry-stops [] s k q =
-    record { ends = refl; no-more = zero-le; accepted = λ i h. absurd (omega arith); stopped = λ h. absurd (omega arith); finished = λ h. sym q }
+    record { ends = refl; no-more = zero-le; accepted = λ i h. absurd (omega arith); stopped = λ h. absurd (omega arith); refused = λ h. absurd (omega arith); finished = λ h. sym q }
 entry-stops (e ∷ es) s k q = refused-first e es s k (rw q)

@@ -24,5 +24,6 @@ pub record StepByStep (es : List ℕ) (s : State) (o : Outcome) : Type 0 where
   pub accepted : (i : ℕ) → i < o .done → refusalOf (getD es i 0) (before es i s) ≡ 0
   -- where events are left, the next one was refused, by this number
   pub stopped : o .done < length es → o .refusal ≡ refusalOf (getD es (o .done) 0) (before es (o .done) s)
+  pub refused : o .done < length es → o .refusal ≡ 0 → ⊥
   -- where none is left, only the entry can have refused
   pub finished : o .done ≡ length es → o .refusal ≡ entryRefusal s

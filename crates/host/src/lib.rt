@@ -13,11 +13,9 @@ use registers::Chip;
 fn no_record(memory_len: usize, writers_len: usize) -> u64
     ensures { λ r. ⌜ r ≡ noRecordFor «memory_len» «writers_len» ⌝ }
 {
-    if memory_len != 1717 {
-        return 1;
-    }
-    if writers_len != 1717 {
-        return 1;
+    let refused = registers::refusal::of_lengths(memory_len, writers_len);
+    if refused != 0 {
+        return refused as u64;
     }
     2
 }
