@@ -12,7 +12,8 @@ use Rattle.registers.specs.Refusals.{lengthsRefusal}
 use Rattle.registers.specs.State.{State, state, places}
 use Rattle.text.specs.Text.{bytes}
 use Rattle.print.specs.declared.Written.the-variants.{Text, Short, Refused}
-use Rattle.print.specs.Printed.{decimalOf, output, wholeText}
+use Rattle.print.specs.Printed.{decimalOf, output, wholeText, NumberSays}
+use Rattle.print.proofs.Laws.{number-says}
 use Rattle.chip.specs.Promised.{Fit}
 use Rattle.capture.specs.declared.End.{End}
 use Rattle.capture.specs.declared.End.the-variants as ends
@@ -23,7 +24,7 @@ use Rattle.capture.specs.Where.{Lent, Replayed}
 use Rattle.capture.proofs.Laws.{is-replayed, end-fit}
 use Rattle.capture.proofs.Refusals.{by-lent, lent-passes, not-lent}
 use Rattle.listing.specs.LastWriters.{NamesLastWriter, ListsLastWriters}
-use Rattle.listing.specs.Listing.{Cell, cell, cellsFrom, cellsOf, header, cellsText, listingOf, refusedOf, listingCall}
+use Rattle.listing.specs.Listing.{Cell, cell, cellsFrom, cellsOf, header, cellsText, listingOf, refusedOf, listingNumber, listingCall, refusedCall}
 use Rattle.listing.specs.Order.{WrittenCell, InOrder}
 use Rattle.listing.specs.ReplayText.{textOfReplay, textUnless, replayTextCall}
 use Rattle.listing.proofs.LastWriters.{named, listed}
@@ -78,11 +79,26 @@ module _ (memory writers : List ℕ) where
         where
           go :
               (t : Bool)
-              → cond t (output (Text (length (listingOf memory writers))) (sets out 0 (listingOf memory writers))) (output (Short (length (listingOf memory writers))) out)
-              .answer
+              → (let text : List ℕ = listingOf memory writers in cond t (output (Text (length text)) (sets out 0 text)) (output (Short (length text)) out) .answer)
               ≡ Refused k → ⊥
           go true h = let z : _≡_ {A = ℕ} 0 1 = cc h in omega arith
           go false h = let z : _≡_ {A = ℕ} 0 1 = cc h in omega arith
+
+  -- the number of its answer: 1 where a memory has another length; else 10 exactly where the output is shorter than the listing, 0 exactly where the
+  -- listing was written
+  pub listing-number-exactly :
+      (out : List ℕ)
+      → (Lent memory writers → NumberSays listingNumber 10 (listingOf memory writers) out (listingCall memory writers out))
+      × ((Lent memory writers → ⊥) → listingNumber (listingCall memory writers out .answer) ≡ 1)
+  unfolding wholeText
+  listing-number-exactly out = (
+    λ lent. rw (lent-passes memory writers lent) (number-says 10 (λ z. omega arith) (listingOf memory writers) out),
+    λ n. rw (not-lent memory writers n),
+  )
+
+-- and so that of the line of a capture that is bad, which nothing refuses
+pub refused-number-exactly : (n : ℕ) (out : List ℕ) → NumberSays listingNumber 10 (refusedOf n) out (refusedCall n out)
+refused-number-exactly n out = number-says 10 (λ z. omega arith) (refusedOf n) out
 
 -- the listing that document 01 gives whole: of all cells only that in column 5 of bank 2 has a writer, event 10, and its byte is 167
 pub marked-listing :

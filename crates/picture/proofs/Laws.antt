@@ -2,7 +2,7 @@
 use mathlib.Core.Path.{_≡_, refl, sym, ap, _∙_}
 use mathlib.Core.Bool.{Bool, true, false, not}
 use mathlib.Core.List.{List, _++_, append-assoc}
-use Prim.Native.Nat.{ℕ, _+_, _*_, _-_, _≤_, _<_}
+use Prim.Native.Nat.{ℕ, zero, suc, _+_, _*_, _-_, _≤_, _<_}
 use native.Mathlib.Omega.{arith}
 use lib.Dec.{eqb}
 use lib.ListN.{length, getD}
@@ -17,9 +17,10 @@ use Rattle.glass.specs.Pixel.{Pixel, pixelOf, levelOf, placeAt}
 use Rattle.glass.proofs.Refusals.{is-on}
 use Rattle.glass.proofs.Views.{never-refused}
 use Rattle.text.proofs.Finding.{count-append}
-use Rattle.print.specs.Printed.{partsFrom}
+use Rattle.print.specs.Printed.{partsFrom, wholeText, NumberSays}
+use Rattle.print.proofs.Laws.{number-says}
 use Rattle.print.proofs.Writing.{parts-split, parts-count}
-use Rattle.picture.specs.Picture.{grey, colourOf, pixelText, header, pixelAt, pixelCount, pixmapOf, pixmapRefusal}
+use Rattle.picture.specs.Picture.{grey, colourOf, pixelText, header, pixelAt, pixelCount, pixmapOf, pixmapRefusal, pixmapNumber, pixmapCall}
 use Rattle.picture.specs.Order.{LineAt}
 use Rattle.picture.proofs.Lines.{one-line, pixel-of}
 -- how long the text is at most
@@ -36,6 +37,19 @@ as-the-glass c n row column on = sym (simp (is-on row column on) (go (eqb n plac
     go true true = refl
     go true false = refl
     go false a = refl
+
+-- the number of its answer: that of the refusal where there is one; else 10 exactly where the output is shorter than the picture, 0 exactly where the
+-- picture was written
+module _ (c : Chip) (memory out : List ℕ) where
+  pub pixmap-number-exactly :
+      (pixmapRefusal c (length memory) ≡ 0 → NumberSays pixmapNumber 10 (pixmapOf c memory) out (pixmapCall c memory out))
+      × ((pixmapRefusal c (length memory) ≡ 0 → ⊥) → pixmapNumber (pixmapCall c memory out .answer) ≡ pixmapRefusal c (length memory))
+  unfolding wholeText
+  pixmap-number-exactly = (λ e. rw e (number-says 10 (λ z. omega arith) (pixmapOf c memory) out), λ n. go (pixmapRefusal c (length memory)) n)
+    where
+      go : (k : ℕ) → (k ≡ 0 → ⊥) → pixmapNumber (wholeText k (pixmapOf c memory) out .answer) ≡ k
+      go zero n = absurd (n refl)
+      go (suc k) n = refl
 
 -- ---- colours
 

@@ -11,9 +11,8 @@ use lib.Dec.{leb}
 use lib.ListN.{length, take}
 use lib.Seq.{sets}
 use Rattle.text.proofs.Laws.{IsNumber}
-use Rattle.print.specs.declared.Written.{Written}
 use Rattle.print.specs.declared.Written.the-variants.{Text, Short, Refused}
-use Rattle.print.specs.Printed.{IsDecimalOf, decimalOf, writtenNumber, writtenLength, Output, output, wholeText}
+use Rattle.print.specs.Printed.{IsDecimalOf, decimalOf, writtenNumber, writtenLength, Output, output, wholeText, NumberSays}
 use Rattle.print.proofs.Digits.{decimal-denotes, denotes-decimal, decimal-short}
 use Rattle.print.proofs.Writing.{wrote-read}
 
@@ -29,20 +28,6 @@ number-exactly s n = (
 )
 
 -- ---- a whole text
-
--- where the output is too short, and only there, the answer has the number that its kind of text gives for that, with the length that is needed
-pub short-exactly :
-    (short : ℕ) → (short ≡ 0 → ⊥) → (xs l : List ℕ)
-    → ((writtenNumber short (wholeText 0 xs l .answer) ≡ short) ↔ (length l < length xs)) × (writtenLength (wholeText 0 xs l .answer) ≡ length xs)
-unfolding wholeText
-short-exactly short some xs l = go (leb (length xs) (length l)) refl
-  where
-    go :
-        (t : Bool) → leb (length xs) (length l) ≡ t
-        → (let a : Written = cond t (output (Text (length xs)) (sets l 0 xs)) (output (Short (length xs)) l) .answer in
-        ((writtenNumber short a ≡ short) ↔ (length l < length xs)) × (writtenLength a ≡ length xs))
-    go true e = ((λ z. absurd (some (sym z)), λ h. absurd (omega (arith, leb-true (length xs) (length l) e))), refl)
-    go false e = ((λ z. leb-false (length xs) (length l) e, λ h. refl), refl)
 
 -- where the answer is a text's length, the buffer begins with that text
 module _ (xs l : List ℕ) where
@@ -72,3 +57,36 @@ module _ (xs l : List ℕ) where
       let same : Text n ≡ Refused (suc k) = ap (λ (o : Output). o .answer) e in
       let z : _≡_ {A = ℕ} 0 1 = cc in
       absurd (omega arith)
+
+-- a text that is not refused: the number of its answer says whether it was written, and nothing else is possible
+pub number-says : (short : ℕ) → (short ≡ 0 → ⊥) → (xs l : List ℕ) → NumberSays (writtenNumber short) short xs l (wholeText 0 xs l)
+unfolding wholeText
+number-says short some xs l = go (leb (length xs) (length l)) refl
+  where
+    go :
+        (t : Bool) → leb (length xs) (length l) ≡ t
+        → NumberSays (writtenNumber short) short xs l (cond t (output (Text (length xs)) (sets l 0 xs)) (output (Short (length xs)) l))
+    go true e =
+        let room : length xs ≤ length l = leb-true (length xs) (length l) e in
+        record {
+          is-short = (λ z. absurd (some (sym z)), λ h. absurd (omega (arith, room)));
+          is-written = (λ z. room, λ h. refl);
+          needed = refl;
+          has-text = λ z. from-start xs l room;
+          unchanged = λ z. absurd (some (sym z));
+        }
+    go false e =
+        let none : length l < length xs = leb-false (length xs) (length l) e in
+        record {
+          is-short = (λ z. none, λ h. refl);
+          is-written = (λ z. absurd (some z), λ h. absurd (omega (arith, none)));
+          needed = refl;
+          has-text = λ z. absurd (some z);
+          unchanged = λ z. refl;
+        }
+
+-- where the output is too short, and only there, the answer has the number that its kind of text gives for that, with the length that is needed
+pub short-exactly :
+    (short : ℕ) → (short ≡ 0 → ⊥) → (xs l : List ℕ)
+    → ((writtenNumber short (wholeText 0 xs l .answer) ≡ short) ↔ (length l < length xs)) × (writtenLength (wholeText 0 xs l .answer) ≡ length xs)
+short-exactly short some xs l = let says = number-says short some xs l in (says .is-short, says .needed)

@@ -1,10 +1,11 @@
 -- Numbers of any size in decimal, and text written into a buffer.
 use mathlib.Core.Bool.{Bool, true, false, cond, _&&_}
 use mathlib.Core.List.{List, [], _∷_, _++_}
+use mathlib.Core.Logic.{_↔_}
 use mathlib.Core.Path.{_≡_}
-use Prim.Native.Nat.{ℕ, zero, suc, _+_, _*_, _/_, _%_, _-_, _^_}
+use Prim.Native.Nat.{ℕ, zero, suc, _+_, _*_, _/_, _%_, _-_, _^_, _≤_, _<_}
 use lib.Dec.{leb, ltb}
-use lib.ListN.{length}
+use lib.ListN.{length, take}
 use lib.Seq.{sets}
 use Rattle.text.specs.Decimal.{isDigit, isLeading, digitValue, digit}
 use Rattle.print.specs.declared.Written.{Written}
@@ -92,3 +93,13 @@ output a l = record { answer = a; out = l }
 unfoldable pub wholeText : ℕ → List ℕ → List ℕ → Output
 wholeText zero xs l = cond (leb (length xs) (length l)) (output (Text (length xs)) (sets l 0 xs)) (output (Short (length xs)) l)
 wholeText (suc k) xs l = output (Refused (suc k)) l
+
+-- what the number of an answer says of the text xs into l, where nothing refuses it; `short` is the number of an output shorter than needed
+pub record NumberSays (number : Written → ℕ) (short : ℕ) (xs l : List ℕ) (o : Output) : Type 0 where
+  pub is-short : (number (o .answer) ≡ short) ↔ (length l < length xs)
+  pub is-written : (number (o .answer) ≡ 0) ↔ (length xs ≤ length l)
+  -- the length that is needed, in both
+  pub needed : writtenLength (o .answer) ≡ length xs
+  -- the buffer begins with the text, or is as it was
+  pub has-text : number (o .answer) ≡ 0 → take (length xs) (o .out) ≡ xs
+  pub unchanged : number (o .answer) ≡ short → o .out ≡ l
