@@ -69,7 +69,7 @@ feed-over xs ys p over = go (partRefusal p) refl
 -- ---- what it comes to
 
 abbrev pub fedResult : PartFed → Replay
-fedResult f = unlessRefused (f .refusal) (resultOf (f .after))
+fedResult f = unlessRefused (f .refusal) (f .after .state .memory) (f .after .state .writers) (resultOf (f .after))
 
 -- the whole text from the start
 pub text-replayed : (text m w : List ℕ) → fedResult (feedOf text (kept startOf m w)) ≡ replayOf text m w

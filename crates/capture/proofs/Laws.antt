@@ -73,20 +73,21 @@ finish-refused-exactly k c n = go k (captureAllowed (c .line) (c .chip))
     go (suc j) a =
         (λ h. let same : suc j ≡ n = cc h in inl (same, λ z. omega arith), ⊎-elim (λ h. rw (h .0)) (λ h. absurd (omega (arith, h .0))))
 
--- a whole text is refused by a number exactly where a memory has another length, and then by 1
-pub replay-refused-exactly : (text m w : List ℕ) (k : ℕ) → (replayOf text m w ≡ refusedBy k) ↔ ((k ≡ 1) × (Lent m w → ⊥))
-replay-refused-exactly text m w k = (⊎-elim right wrong (by-lent m w), λ h. replay-not-lent text m w (h .1) ∙ rw (h .0))
+-- a whole text is refused by a number exactly where a memory has another length, and then by 1; both memories are as they were lent
+pub replay-refused-exactly :
+    (text m w : List ℕ) (k : ℕ) (end : State) → (replayOf text m w ≡ refusedBy k end) ↔ ((k ≡ 1) × (Lent m w → ⊥) × (end ≡ started 0 m w))
+replay-refused-exactly text m w k end =
+    (λ e. ⊎-elim (λ lent. absurd (right e (ended m w lent text))) (wrong e) (by-lent m w), λ h. replay-not-lent text m w (h .1) ∙ rw (h .0, h .2))
   where
-    wrong : (Lent m w → ⊥) → replayOf text m w ≡ refusedBy k → (k ≡ 1) × (Lent m w → ⊥)
-    wrong n e = (cc (replay-not-lent text m w n), n)
+    wrong : replayOf text m w ≡ refusedBy k end → (Lent m w → ⊥) → (k ≡ 1) × (Lent m w → ⊥) × (end ≡ started 0 m w)
+    wrong e n =
+        let same : refusedBy k end ≡ refusedBy 1 (started 0 m w) = sym e ∙ replay-not-lent text m w n in
+        (cc same, n, cc same)
 
-    right : Lent m w → replayOf text m w ≡ refusedBy k → (k ≡ 1) × (Lent m w → ⊥)
-    right lent e = go (ended m w lent text)
-      where
-        go : Ended text m w → (k ≡ 1) × (Lent m w → ⊥)
-        go (all-replayed end r q) = absurd (let z : _≡_ {A = ℕ} 0 1 = cc in omega arith)
-        go (refused-first n q) = absurd (let z : _≡_ {A = ℕ} 0 1 = cc in omega arith)
-        go (refused-after n end r q) = absurd (let z : _≡_ {A = ℕ} 0 1 = cc in omega arith)
+    right : replayOf text m w ≡ refusedBy k end → Ended text m w → ⊥
+    right e (all-replayed end r q) = let z : _≡_ {A = ℕ} 0 1 = cc in omega arith
+    right e (refused-first n q) = let z : _≡_ {A = ℕ} 0 1 = cc in omega arith
+    right e (refused-after n end r q) = let z : _≡_ {A = ℕ} 0 1 = cc in omega arith
 
 -- ---- reading in parts
 

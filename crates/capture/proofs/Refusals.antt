@@ -56,7 +56,7 @@ pub replay-lent : (text m w : List ℕ) → Lent m w → replayOf text m w ≡ r
 unfolding replayOf
 replay-lent text m w lent = rw (lent-passes m w lent)
 
-pub replay-not-lent : (text m w : List ℕ) → (Lent m w → ⊥) → replayOf text m w ≡ refusedBy 1
+pub replay-not-lent : (text m w : List ℕ) → (Lent m w → ⊥) → replayOf text m w ≡ refusedBy 1 (started 0 m w)
 unfolding replayOf
 replay-not-lent text m w n = rw (not-lent m w n)
 

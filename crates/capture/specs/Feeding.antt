@@ -142,7 +142,7 @@ finishOf k c = endUnless (k then keptRefusal (c .line) (c .chip)) (endOf (c .lin
 
 -- what an end says, with the memories as they are then. The line of a bad event is count + 2, whatever the width of the count
 unfoldable pub meaning : End → List ℕ → List ℕ → Replay
-meaning (ends.Refused k) m w = refusedBy k
+meaning (ends.Refused k) m w = refusedBy k (started 0 m w)
 meaning ends.BadFirst m w = refusedAt 1 (started 0 m w)
 meaning (ends.Bad c) m w = refusedAt (c .count + 2) (state c m w)
 meaning (ends.Whole c) m w = replayed (state c m w)

@@ -14,8 +14,8 @@ use Rattle.capture_lines.specs.Line.{newline, pinsOf}
 use Rattle.capture.specs.Reading.{EventsRead, eventsOf}
 
 pub data Replay : Type 0 where
-  -- no event is played: 1, a lent memory isn't 1,717 long; 2, what was kept of a capture is not allowed
-  refusedBy : (number : ℕ) → Replay
+  -- no event is played: 1, a lent memory isn't 1,717 long; 2, what was kept of a capture is not allowed. And a chip after reset, with the memories
+  refusedBy : (number : ℕ) → State → Replay
   -- the first bad line or refused event, by its line from 1, and what the events before it left
   refusedAt : (line : ℕ) → State → Replay
   replayed : State → Replay
@@ -43,10 +43,10 @@ replayLines [] m w = refusedAt 1 (started 0 m w)
 replayLines (p ∷ []) m w = refusedAt 1 (started 0 m w)
 replayLines (p ∷ q ∷ ps) m w = withPins (pinsOf p) (eventsOf (q ∷ ps)) m w
 
--- refused by a number, 0 being none, or what else comes
-abbrev pub unlessRefused : ℕ → Replay → Replay
-unlessRefused zero r = r
-unlessRefused (suc k) r = refusedBy (suc k)
+-- refused by a number, 0 being none, the memories as they were; or what else comes
+abbrev pub unlessRefused : ℕ → List ℕ → List ℕ → Replay → Replay
+unlessRefused zero m w r = r
+unlessRefused (suc k) m w r = refusedBy (suc k) (started 0 m w)
 
 unfoldable pub replayOf : List ℕ → List ℕ → List ℕ → Replay
-replayOf text m w = unlessRefused (lengthsRefusal (length m) (length w)) (replayLines (split newline text) m w)
+replayOf text m w = unlessRefused (lengthsRefusal (length m) (length w)) m w (replayLines (split newline text) m w)

@@ -5,7 +5,7 @@ use Prim.Native.String.{String}
 use Rattle.cases_proved.specs.Behaviour.{cell, writer}
 use Rattle.cases_proved.specs.Cited.{bytes, State, Replay, refusedBy, refusedAt, replayed}
 use Rattle.cases_proved.specs.Observed.{Observation, _gives_not_}
-use Rattle.cases_proved.specs.Start.{upon, zeros}
+use Rattle.cases_proved.specs.Start.{zeros}
 
 -- ---- a program that replays, and what can be seen of it
 
@@ -15,19 +15,19 @@ Replayer = List ℕ → List ℕ → List ℕ → Replay
 
 -- the number that refuses the whole, 0 where there is none
 abbrev pub numberOfReplay : Replay → ℕ
-numberOfReplay (refusedBy k) = k
+numberOfReplay (refusedBy k s) = k
 numberOfReplay (refusedAt n s) = 0
 numberOfReplay (replayed s) = 0
 
 -- the bad line, 0 where there is none
 abbrev pub lineOfReplay : Replay → ℕ
-lineOfReplay (refusedBy k) = 0
+lineOfReplay (refusedBy k s) = 0
 lineOfReplay (refusedAt n s) = n
 lineOfReplay (replayed s) = 0
 
--- what the events left; where none was played, a chip after reset
+-- what the events left; where none was played, a chip after reset and the memories as they were lent
 abbrev pub stateOfReplay : Replay → State
-stateOfReplay (refusedBy k) = upon []
+stateOfReplay (refusedBy k s) = s
 stateOfReplay (refusedAt n s) = s
 stateOfReplay (replayed s) = s
 
@@ -38,9 +38,12 @@ refusedOn m w text f = numberOfReplay (f (bytes text) m w)
 abbrev pub badLine : String → Replayer → ℕ
 badLine text f = lineOfReplay (f (bytes text) zeros zeros)
 
--- what the capture leaves
+-- what the capture leaves, in lent memories of these contents and in zeros
+abbrev pub leavesOn : List ℕ → List ℕ → String → (State → ℕ) → Replayer → ℕ
+leavesOn m w text part f = part (stateOfReplay (f (bytes text) m w))
+
 abbrev pub replayLeaves : String → (State → ℕ) → Replayer → ℕ
-replayLeaves text part f = part (stateOfReplay (f (bytes text) zeros zeros))
+replayLeaves = leavesOn zeros zeros
 
 -- ---- the table
 
@@ -50,6 +53,9 @@ captureRows =
     refusedOn [] zeros "pins\t0\n" gives 1 not 0
     ∷ refusedOn zeros [] "pins\t0\n" gives 1 not 0
     ∷ refusedOn zeros zeros "pins\t0\n" gives 0 not 1
+    -- a refused memory overwritten, one or the other
+    ∷ leavesOn (7 ∷ []) zeros "pins\t0\n" (cell 0 0) gives 7 not 0
+    ∷ leavesOn zeros (7 ∷ []) "pins\t0\n" (writer 0 0) gives 7 not 0
     -- the first marked stream: nothing replayed, and events counted from 0
     ∷ replayLeaves "pins\t0\n256\n120\n128\n1\n128\n133\n128\n66\n64\n167\n257\n" (cell 5 2) gives 167 not 0
     ∷ replayLeaves "pins\t0\n256\n120\n128\n1\n128\n133\n128\n66\n64\n167\n257\n" (writer 5 2) gives 10 not 9

@@ -12,7 +12,7 @@ use Rattle.listing.specs.Listing.{listingCall, refusedCall}
 
 -- the answer, and the buffer
 abbrev pub textOfReplay : Replay → List ℕ → Output
-textOfReplay (refusedBy k) out = output (Refused k) out
+textOfReplay (refusedBy k s) out = output (Refused k) out
 textOfReplay (refusedAt n s) out = refusedCall n out
 textOfReplay (replayed s) out = listingCall (s .memory) (s .writers) out
 
