@@ -4,7 +4,7 @@ import project
 COMPILER = ["drawing", "compiler"]
 INSIDE = ["engine", "commands", "display"]
 # what the chip stands on, and the compiler may see
-SHARED = ["registers", "text"]
+SHARED = ["registers", "instruction_table", "text"]
 
 
 def reached(crates, name):

@@ -8,6 +8,6 @@ mod pages;
 pub fn command(registers: Registers, byte: u8) -> Registers
     ensures { λ r. ⌜ r ≡ commandOf byte registers ⌝ }
 {
-    let row = registers::table::find(registers.h, byte);
+    let row = instruction_table::table::find(registers.h, byte);
     crate::pages::in_every_page(registers, row, byte)
 }

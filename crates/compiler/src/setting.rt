@@ -5,10 +5,10 @@ ghost use lib.ListN.{length, take};
 ghost use Rattle.drawing.specs.Plain.{setTo};
 ghost use Rattle.drawing.specs.Stream.{pageOf, setCommands};
 ghost use Rattle.compiler.specs.Writes.{setLength};
+use instruction_table::encoding::is_grey;
+use instruction_table::encoding::row_byte;
+use instruction_table::encoding::row_for;
 use registers::Registers;
-use registers::encoding::is_grey;
-use registers::encoding::row_byte;
-use registers::encoding::row_for;
 
 // That register alone; a grey register is also selected.
 pub fn with_field(registers: Registers, field: u8, value: u8) -> Registers
@@ -23,7 +23,7 @@ pub fn with_field(registers: Registers, field: u8, value: u8) -> Registers
 pub fn page_of(row: usize) -> u8
     ensures { λ r. ⌜ r ≡ pageOf row ⌝ }
 {
-    registers::table::page(row)
+    instruction_table::table::page(row)
 }
 
 // The command bytes of a set, the first `count` of `bytes`.

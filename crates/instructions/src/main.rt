@@ -1,8 +1,8 @@
 // Prints the two tables of docs/INSTRUCTIONS.md from the chip's own data: the commands bit by bit, and the registers.
 mod names;
 
+use instruction_table::table;
 use registers::limits;
-use registers::table;
 
 fn text(s: &[u8]) {
     io::write_all(1, s);

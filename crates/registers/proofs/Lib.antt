@@ -6,5 +6,3 @@ pub mod Parts
 pub mod Put
 pub mod Encode
 pub mod Refusals
-pub mod RowByte
-pub mod CodeWays

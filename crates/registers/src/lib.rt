@@ -3,14 +3,12 @@ ghost use mathlib.Core.Path.{_≡_};
 ghost use Rattle.registers.specs.Record.{phaseRs, resetChip, allowedRegisters, allowed, inPhase, withRegisters};
 
 mod bytes;
-pub mod encoding;
-mod entry;
+pub mod entry;
 pub mod limits;
 pub mod names;
 pub mod refusal;
 pub mod reversed;
 pub mod rows;
-pub mod table;
 
 // The registers of the data sheet's bit table, in document 01's order. H is the command page.
 pub struct Registers {

@@ -1,9 +1,9 @@
 use native.Mathlib.Omega.{arith}
 use borrow.Author.Needs.{needs}
-use Rattle.registers.proofs.CodeWays.{share-of-other, share-of-own}
-use Rattle.registers.proofs.RowByte.{low-bound}
-use Rattle.registers.proofs.encoding.share.Statement.{statement}
-use Rattle.registers.proofs.encoding.share.Tie as tie
+use Rattle.instruction_table.proofs.CodeWays.{share-of-other, share-of-own}
+use Rattle.instruction_table.proofs.RowByte.{low-bound}
+use Rattle.instruction_table.proofs.encoding.share.Statement.{statement}
+use Rattle.instruction_table.proofs.encoding.share.Tie as tie
 
 part-row-requires : tie.Need-part-row-requires
 part-row-requires c κs = search needs

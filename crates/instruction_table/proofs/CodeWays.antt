@@ -9,8 +9,8 @@ use native.Mathlib.Omega.{arith}
 use borrow.Author.Tests.{eq-eqb, ne-eqb}
 use lib.ListN.{getD}
 use lib.Pow.{shl-exact}
 use Rattle.registers.specs.Data.{codes, partRows, partTargets, partLows, placeOf, shareOf, sharesOf, byteOf}
-use Rattle.registers.proofs.RowByte.{low-bound, byte-fits}
+use Rattle.instruction_table.proofs.RowByte.{low-bound, byte-fits}
 
 -- what a part adds to a row's byte: o is the part's row
 module _ (v : List ℕ) (i k o : ℕ) (owner : o ≡ getD partRows k 0) where

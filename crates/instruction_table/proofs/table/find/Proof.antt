@@ -4,10 +4,10 @@ use native.Mathlib.Nat.{zero-add}
 use native.Mathlib.Omega.{arith}
 use borrow.Author.Needs.{needs}
 use lib.ListN.{drop}
 use Rattle.registers.specs.Table.{rows, rowAmong, rowAt}
-use Rattle.registers.proofs.Tables.{row-test, found-here, found-later, found-none}
-use Rattle.registers.proofs.table.find.Statement.{statement}
-use Rattle.registers.proofs.table.find.Tie as tie
+use Rattle.instruction_table.proofs.Search.{row-test, found-here, found-later, found-none}
+use Rattle.instruction_table.proofs.table.find.Statement.{statement}
+use Rattle.instruction_table.proofs.table.find.Tie as tie
 
 abbrev Inv-loop : tie.InvT-loop
 Inv-loop page byte pages fixed codes i₀ i = (i ≤ 21) × (i + rowAmong page byte (drop i rows) ≡ rowAt page byte)
@@ -47,10 +47,10 @@ loop-less c = omega arith
 loop-again : tie.Need-loop-again Inv-loop μ-loop
 loop-again c =
     let at-head = c .before .before .loop in
-    let inside = c .before .loop-test .taken in
-    let tested = row-test (at-head .i) _ (c .before .before .before .args .byte) inside (search needs) in (
+    let inside = c .before .loop-test .taken in (
       omega arith,
-      sym (found-later _ _ _ inside (sym tested ∙ c .if1 .left)) ∙ at-head .inv .1,
+      let tested = row-test (at-head .i) _ (c .before .before .before .args .byte) inside (search needs) in
+          sym (found-later _ _ _ inside (sym tested ∙ c .if1 .left)) ∙ at-head .inv .1,
     )
 
 returns-2 : tie.Need-returns-2 Inv-loop μ-loop

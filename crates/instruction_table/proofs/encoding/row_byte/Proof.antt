@@ -2,10 +2,10 @@ use mathlib.Core.Path.{ap, _∙_}
 use mathlib.Core.List.{List}
 use Prim.Native.Nat.{ℕ}
 use borrow.Author.Needs.{needs}
 use Rattle.registers.specs.Data.{byteOf}
-use Rattle.registers.proofs.RowByte.{byte-of}
-use Rattle.registers.proofs.encoding.row_byte.Statement.{statement}
-use Rattle.registers.proofs.encoding.row_byte.Tie as tie
+use Rattle.instruction_table.proofs.RowByte.{byte-of}
+use Rattle.instruction_table.proofs.encoding.row_byte.Statement.{statement}
+use Rattle.instruction_table.proofs.encoding.row_byte.Tie as tie
 
 bytes-requires : tie.Need-bytes-requires
 bytes-requires c κs = search needs

@@ -3,10 +3,10 @@ use Prim.Native.Nat.{ℕ, _+_, _-_, _≤_}
 use native.Mathlib.Omega.{arith}
 use borrow.Author.Needs.{needs}
 use lib.ListN.{getD}
 use Rattle.registers.specs.Data.{sharesOf, byteOf}
-use Rattle.registers.proofs.CodeWays.{shares-start, shares-next, shares-room, shares-end}
-use Rattle.registers.proofs.encoding.byte_of.Statement.{statement}
-use Rattle.registers.proofs.encoding.byte_of.Tie as tie
+use Rattle.instruction_table.proofs.CodeWays.{shares-start, shares-next, shares-room, shares-end}
+use Rattle.instruction_table.proofs.encoding.byte_of.Statement.{statement}
+use Rattle.instruction_table.proofs.encoding.byte_of.Tie as tie
 
 abbrev Inv-loop : tie.InvT-loop
 Inv-loop values row sum₀ part₀ sum part = (part ≤ 29) × (sum + sharesOf values row part (29 - part) ≡ byteOf values row)

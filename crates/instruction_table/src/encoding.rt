@@ -1,11 +1,9 @@
 // The byte by which a row says what the registers hold: the other way round of the row methods.
 ghost use mathlib.Core.Path.{_≡_};
 ghost use lib.ListN.{getD};
 ghost use Rattle.registers.specs.Data.{placeOf, shareOf, byteOf};
 ghost use Rattle.registers.specs.Encode.{rowByte, rowFor, isGrey};
 ghost use Rattle.registers.specs.Table.{rows, noRow};
-use crate::Registers;
-use crate::entry::entry;
 use crate::table::PARTS;
 use crate::table::ROWS;
 use crate::table::SELECTED;
@@ -13,6 +11,8 @@ use crate::table::code;
 use crate::table::part_low;
 use crate::table::part_row;
 use crate::table::part_target;
+use registers::Registers;
+use registers::entry::entry;
 
 // The row that sets each register; X and Y have none that sets every value, and 21 is no row.
 const ROW_FOR: [usize; 29] = [

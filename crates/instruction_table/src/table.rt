@@ -1,9 +1,9 @@
 // The instruction table as data, in the order of docs/INSTRUCTIONS.md, and the search for a byte's row.
 ghost use mathlib.Core.Path.{_≡_};
 ghost use lib.ListN.{getD};
 ghost use Rattle.registers.specs.Table.{rowAt};
 ghost use Rattle.registers.specs.Data.{pages, codes, masks, partRows, partTargets, partLows, partWidths};
-use crate::entry::entry;
+use registers::entry::entry;
 
 // How many rows there are; as a row's number it means that no row matches.
 pub const ROWS: usize = 21;

@@ -1,7 +1,7 @@
 use borrow.Author.Needs.{needs}
-use Rattle.registers.proofs.RowByte.{row-for-at, no-row-for}
-use Rattle.registers.proofs.encoding.row_for.Statement.{statement}
-use Rattle.registers.proofs.encoding.row_for.Tie as tie
+use Rattle.instruction_table.proofs.RowByte.{row-for-at, no-row-for}
+use Rattle.instruction_table.proofs.encoding.row_for.Statement.{statement}
+use Rattle.instruction_table.proofs.encoding.row_for.Tie as tie
 
 returns : tie.Need-returns
 returns c = no-row-for (c .before .args .register) (c .if1 .taken)

@@ -1,7 +1,7 @@
 use borrow.Author.Needs.{needs}
 use borrow.Author.Tests.{eq-eqb, ne-eqb}
-use Rattle.registers.proofs.encoding.place_of.Statement.{statement}
-use Rattle.registers.proofs.encoding.place_of.Tie as tie
+use Rattle.instruction_table.proofs.encoding.place_of.Statement.{statement}
+use Rattle.instruction_table.proofs.encoding.place_of.Tie as tie
 
 entry-requires : tie.Need-entry-requires
 entry-requires c κs = search needs

@@ -1,0 +1,4 @@
+// The instruction table as data: a byte's row, and the byte by which a row says what the registers hold.
+
+pub mod encoding;
+pub mod table;
