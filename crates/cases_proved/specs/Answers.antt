@@ -64,7 +64,7 @@ answerRows =
     -- the last of them, or the lowest number
     ∷ line [] "put\t0\t16\t64\nx\n" 100 gives 1 not 2
     ∷ number [] "put\t0\t16\t64\nx\n" 100 gives 7 not 6
-    -- 10 numbersGiven before a bad line, and the lines before it written
+    -- 10 given before a bad line, and the lines before it written
     ∷ number [] "put\t5\t2\t167\nput\t0\t16\t64\n" 0 gives 7 not 10
     ∷ word 0 [] "put\t5\t2\t167\nput\t0\t16\t64\n" 100 gives 999 not 256
     -- 7 before 6

@@ -73,7 +73,7 @@ module _ (s : State) where
       accepted-step (512 + v) s h
       ∙ ap (λ (e : Event). applied e (s .chip .count + 1) (state (counted (s .chip)) (s .memory) (s .writers))) (sensor-event v b)
 
-  -- a byte from the master: address, control byte, command, display byte, or one that nobody hears
+  -- a byte from the master: address, control byte, command, display byte, or one that is ignored
   module _ (b : ℕ) (is-byte : b < 256) (h : refusalOf b s ≡ 0) where
     pub address-law :
         s .chip .phase ≡ AddressAwaited

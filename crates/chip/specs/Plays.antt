@@ -1,4 +1,4 @@
--- Events played one after the other, and what one needs to know of a chip to speak to it.
+-- Events played one after the other, and what one needs to know of a chip to send it messages.
 use mathlib.Core.Bool.{true}
 use mathlib.Core.List.{List, [], _∷_, _++_}
 use mathlib.Core.Path.{_≡_}

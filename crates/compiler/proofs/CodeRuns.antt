@@ -55,9 +55,9 @@ pub run-wrote :
     → Wrote m j (replicate n e) o q
     → Wrote o q (257 ∷ []) r k
     → Wrote l i (runEvents pins x y n e) r k
-run-wrote {l = l} {m = m} {i = i} {j = j} pins x y n e a h told drawn stopped =
+run-wrote {l = l} {m = m} {i = i} {j = j} pins x y n e a h matched drawn stopped =
     wrote-then
-    (subst (λ (z : ℕ). Wrote l i (256 ∷ z ∷ 128 ∷ 1 ∷ 128 ∷ (128 + x) ∷ 128 ∷ (64 + y) ∷ 64 ∷ []) m j) h told)
+    (subst (λ (z : ℕ). Wrote l i (256 ∷ z ∷ 128 ∷ 1 ∷ 128 ∷ (128 + x) ∷ 128 ∷ (64 + y) ∷ 64 ∷ []) m j) h matched)
     (wrote-then drawn stopped)
 
 -- what is known of a loop over runs: room for those that are left, and what is still to be written

@@ -60,9 +60,9 @@ module _ (c : Chip) (text out : List ℕ) where
       go true e true d = refused (Refused 9) (inr (refl, e, ltb-true 4096 (newlines text) d))
       go true e false d = from (readingOf text) refl (record { allowed-record = e; not-too-long = ltb-false 4096 (newlines text) d })
 
-  told : (r : Result) → AnswerWhen r → When c text out (r .answer)
-  told _ (refused r w) = w
-  told _ (done n k es w) = w
+  when-answered : (r : Result) → AnswerWhen r → When c text out (r .answer)
+  when-answered _ (refused r w) = w
+  when-answered _ (done n k es w) = w
 
   from-reading : PassesEntry c text → compileOf c text out ≡ fromReading (c .pins) (blank (c .registers)) (readingOf text) out
   unfolding compileOf
@@ -88,7 +88,7 @@ module _ (c : Chip) (text out : List ℕ) where
 
   -- each answer comes exactly when document 01's table says
   pub exactly-when : (r : Compiled) → (compileOf c text out .answer ≡ r) ↔ When c text out r
-  exactly-when r = (λ e. subst (When c text out) e (told (compileOf c text out) answer-when), so r)
+  exactly-when r = (λ e. subst (When c text out) e (when-answered (compileOf c text out) answer-when), so r)
 
   -- the length is that of the stream, the clocks are nine for each of its bytes, and the output begins with it and is else as it was
   pub accepted :
@@ -99,7 +99,7 @@ module _ (c : Chip) (text out : List ℕ) where
   -- in document 01's numbers: 2 comes exactly where the record is not allowed
   pub two-exactly : (numbersOf (compileOf c text out .answer) .number ≡ 2) ↔ (allowed c ≡ false)
   two-exactly = (
-    λ e. there (compileOf c text out .answer) (told (compileOf c text out) answer-when) e,
+    λ e. there (compileOf c text out .answer) (when-answered (compileOf c text out) answer-when) e,
     λ h. ap (λ (r : Compiled). numbersOf r .number) (so (Refused 2) (inl (refl, h))),
   )
     where

@@ -1,4 +1,4 @@
--- One line: the message of a set, how many events and bytes a line has, and the line told by its kind.
+-- One line: the message of a set, how many events and bytes a line has, and the line matched by its kind.
 use mathlib.Core.List.{List, [], _∷_, _++_}
 use mathlib.Core.Path.{_≡_, refl, sym, ap, _∙_, subst}
 use Prim.Native.Nat.{ℕ, _+_, _*_, _-_, _≤_, _<_}
@@ -54,12 +54,12 @@ pub message-wrote :
     → Wrote m j (singles bs []) o q
     → Wrote o q (257 ∷ []) r k
     → Wrote l i (message pins cs) r k
-message-wrote {l} {m} {o} {r} {i} {j} {q} {k} pins a bs cs ha hb started told stopped =
+message-wrote {l} {m} {o} {r} {i} {j} {q} {k} pins a bs cs ha hb started matched stopped =
     subst (λ (es : List ℕ). Wrote l i es r k)
     (ap (λ (es : List ℕ). 256 ∷ a ∷ es) (singles-append bs (257 ∷ []))
     ∙ ap (λ (z : ℕ). 256 ∷ z ∷ singles bs (257 ∷ [])) ha
     ∙ ap (λ (z : List ℕ). message pins z) hb)
-    (wrote-then started (wrote-then told stopped))
+    (wrote-then started (wrote-then matched stopped))
 
 -- the first n of the bytes bs are the commands cs
 module _ (n : ℕ) (bs cs : List ℕ) (said : (take n bs ≡ cs) × (n ≤ length bs)) where

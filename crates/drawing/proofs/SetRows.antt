@@ -55,7 +55,7 @@ put-at f g t r l = go (ℕ-discrete g f)
         ap (at (put f (at t f) r)) e ∙ put-same f (at t f) r l ∙ ap (at t) (sym e) ∙ sym (ap (λ (b : Bool). cond b (at t g) (at r g)) (eq-eqb g f e))
     go (no n) = put-other f (at t f) r g n ∙ sym (ap (λ (b : Bool). cond b (at t g) (at r g)) (ne-eqb g f n))
 
--- each register is as aimed where a part is that register, and else as it was
+-- each register is as the parts have it where one is that register, and else as it was
 pub with-parts-at : (ps : List Part) → T (allSimple ps) → (t r : Registers) (g : ℕ) → at (withParts ps t r) g ≡ cond (hasField g ps) (at t g) (at r g)
 with-parts-at [] s t r g = refl
 with-parts-at (p ∷ ps) s t r g =

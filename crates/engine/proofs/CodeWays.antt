@@ -42,9 +42,9 @@ module _ (rs : Bool) (p : Phase) (b number : ℕ) (s : State) where
       → after Acknowledged c′ (s .memory) (s .writers) ≡ contentOf rs p b number s
   command-content moved c′ next t e n ec = simp (t, ec, e, n)
 
--- the phase is told: what is right in that phase is right
-pub in-known-phase : (told phase : Phase) (b number : ℕ) (s : State) (a : After) → phase ≡ told → a ≡ onByte told b number s → a ≡ onByte phase b number s
-in-known-phase told phase b number s a e h = subst (λ (p : Phase). a ≡ onByte p b number s) (sym e) h
+-- the phase is known: what is right in that phase is right
+pub in-known-phase : (known phase : Phase) (b number : ℕ) (s : State) (a : After) → phase ≡ known → a ≡ onByte known b number s → a ≡ onByte phase b number s
+in-known-phase known phase b number s a e h = subst (λ (p : Phase). a ≡ onByte p b number s) (sym e) h
 
 -- where content is awaited, the phase says its RS and what comes after it
 in-content-phase :
@@ -65,23 +65,23 @@ pub content-taken :
     → a ≡ onByte p b number s
 content-taken p next rs awaits b number s a e t er en h = h ∙ rw (er, en) (in-content-phase p b number s (sym e ∙ t))
 
--- the phase is told, and is not one that awaits content
-pub no-content : (told phase : Phase) (a a′ : After) → phase ≡ told → awaitsContent told ≡ true → awaitsContent phase ≡ false → a ≡ a′
-no-content told phase a a′ e t f = cc
+-- the phase is known, and is not one that awaits content
+pub no-content : (known phase : Phase) (a a′ : After) → phase ≡ known → awaitsContent known ≡ true → awaitsContent phase ≡ false → a ≡ a′
+no-content known phase a a′ e t f = cc
 
 -- ---- an event
 
--- the event is told, and what was made of it: what is right for it is right
+-- the event is known, and what was made of it: what is right for it is right
 pub in-known-event :
-    (told event : Event) (number : ℕ) (s : State) (a a′ : Answer) (c c₁ c′ : Chip) → event ≡ told → (a ≡ a′) × (c ≡ c₁) → c₁ ≡ c′
-    → nothingStored a′ c′ s ≡ applied told number s → nothingStored a c s ≡ applied event number s
-in-known-event told event number s a a′ c c₁ c′ e made ec h =
+    (known event : Event) (number : ℕ) (s : State) (a a′ : Answer) (c c₁ c′ : Chip) → event ≡ known → (a ≡ a′) × (c ≡ c₁) → c₁ ≡ c′
+    → nothingStored a′ c′ s ≡ applied known number s → nothingStored a c s ≡ applied event number s
+in-known-event known event number s a a′ c c₁ c′ e made ec h =
     subst (λ (v : Event). nothingStored a c s ≡ applied v number s) (sym e)
     (ap₂ (λ (x : Answer) (y : Chip). nothingStored x y s) (made .0) (made .1 ∙ ec) ∙ h)
 
--- the event is told, and is a byte: that does not come here
-pub no-byte-known : (told event : Event) (a a′ : After) → event ≡ told → isByte told ≡ true → isByte event ≡ false → a ≡ a′
-no-byte-known told event a a′ e t f = cc
+-- the event is known, and is a byte: that does not come here
+pub no-byte-known : (known event : Event) (a a′ : After) → event ≡ known → isByte known ≡ true → isByte event ≡ false → a ≡ a′
+no-byte-known known event a a′ e t f = cc
 
 module _ (e : ℕ) (s : State) (a : After) where
   pub accept-byte :
@@ -93,7 +93,7 @@ module _ (e : ℕ) (s : State) (a : After) where
       (event : Event) → event ≡ eventOf e
       → a ≡ applied event (s .chip .count + 1) (state (counted (s .chip)) (s .memory) (s .writers)) → a ≡ accepted e s
   unfolding accepted
-  accept-other event told h = h ∙ ap (λ (v : Event). applied v (s .chip .count + 1) (state (counted (s .chip)) (s .memory) (s .writers))) told
+  accept-other event known h = h ∙ ap (λ (v : Event). applied v (s .chip .count + 1) (state (counted (s .chip)) (s .memory) (s .writers))) known
 
 -- ---- a run
 

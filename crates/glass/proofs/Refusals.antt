@@ -41,9 +41,9 @@ module _ (row column : ℕ) where
 -- ---- the place
 
 module _ (c : Chip) (row column : ℕ) where
-  place-verdict : PlaceWhen c row column (placeRefusal c row column)
+  place-when : PlaceWhen c row column (placeRefusal c row column)
   unfolding placeRefusal
-  place-verdict = go (allowed c) (offGlass row column) refl refl
+  place-when = go (allowed c) (offGlass row column) refl refl
     where
       go : (a o : Bool) → allowed c ≡ a → offGlass row column ≡ o → PlaceWhen c row column (refuse (not a) 2 then refuse o 5)
       go false o ea eo = ea
@@ -61,14 +61,14 @@ module _ (c : Chip) (row column : ℕ) where
   place-so (suc (suc (suc (suc (suc (suc k)))))) h = absurd h
 
   pub place-exactly : (k : ℕ) → (placeRefusal c row column ≡ k) ↔ PlaceWhen c row column k
-  place-exactly k = (λ e. subst (λ (n : ℕ). PlaceWhen c row column n) e place-verdict, place-so k)
+  place-exactly k = (λ e. subst (λ (n : ℕ). PlaceWhen c row column n) e place-when, place-so k)
 
 -- ---- the pixel
 
 module _ (c : Chip) (n row column : ℕ) where
-  glass-verdict : GlassWhen c n row column (glassRefusal c n row column)
+  glass-when : GlassWhen c n row column (glassRefusal c n row column)
   unfolding placeRefusal glassRefusal
-  glass-verdict = go (eqb n places) (allowed c) (offGlass row column) refl refl refl
+  glass-when = go (eqb n places) (allowed c) (offGlass row column) refl refl refl
     where
       go :
           (l a o : Bool) → eqb n places ≡ l → allowed c ≡ a → offGlass row column ≡ o
@@ -89,4 +89,4 @@ module _ (c : Chip) (n row column : ℕ) where
   glass-so (suc (suc (suc (suc (suc (suc k)))))) h = absurd h
 
   pub glass-exactly : (k : ℕ) → (glassRefusal c n row column ≡ k) ↔ GlassWhen c n row column k
-  glass-exactly k = (λ e. subst (λ (x : ℕ). GlassWhen c n row column x) e glass-verdict, glass-so k)
+  glass-exactly k = (λ e. subst (λ (x : ℕ). GlassWhen c n row column x) e glass-when, glass-so k)

@@ -21,30 +21,30 @@ use Rattle.registers.proofs.Tables.{tabulated, tabulated-at}
 -- ---- over lists of parts, with the registers v as a list
 
 -- what a part says, where it stands
-said : Part → List ℕ → ℕ
-said p v = getD v (placeOf (targetNumber (p .target)) v) 0 * 2 ^ (p .low)
+shifted : Part → List ℕ → ℕ
+shifted p v = getD v (placeOf (targetNumber (p .target)) v) 0 * 2 ^ (p .low)
 
-saidBy : List Part → List ℕ → ℕ
-saidBy [] v = 0
-saidBy (p ∷ ps) v = said p v + saidBy ps v
+shiftedBy : List Part → List ℕ → ℕ
+shiftedBy [] v = 0
+shiftedBy (p ∷ ps) v = shifted p v + shiftedBy ps v
 
 -- what the parts ps, of the rows os, add to the byte of row i
 shares : ℕ → List ℕ → List Part → List ℕ → ℕ
 shares i [] ps v = 0
 shares i (o ∷ os) [] v = 0
-shares i (o ∷ os) (p ∷ ps) v = cond (eqb o i) (said p v) 0 + shares i os ps v
+shares i (o ∷ os) (p ∷ ps) v = cond (eqb o i) (shifted p v) 0 + shares i os ps v
 
 module _ (i : ℕ) (v : List ℕ) where
   -- the parts of one row, then others
   shares-row :
       (j : ℕ) (ps : List Part) (os : List ℕ) (qs : List Part)
-      → shares i (map (λ (p : Part). j) ps ++ os) (ps ++ qs) v ≡ cond (eqb j i) (saidBy ps v) 0 + shares i os qs v
-  unfolding shares saidBy
+      → shares i (map (λ (p : Part). j) ps ++ os) (ps ++ qs) v ≡ cond (eqb j i) (shiftedBy ps v) 0 + shares i os qs v
+  unfolding shares shiftedBy
   shares-row j ps os qs = go (eqb j i) refl ps
     where
       go :
           (b : Bool) → eqb j i ≡ b → (ps : List Part)
-          → shares i (map (λ (p : Part). j) ps ++ os) (ps ++ qs) v ≡ cond b (saidBy ps v) 0 + shares i os qs v
+          → shares i (map (λ (p : Part). j) ps ++ os) (ps ++ qs) v ≡ cond b (shiftedBy ps v) 0 + shares i os qs v
       go true e [] = sym (zero-add _)
       go false e [] = sym (zero-add _)
       go true e (p ∷ ps) = rw (e, go true e ps) (sym (add-assoc _ _ _))
@@ -59,8 +59,8 @@ module _ (i : ℕ) (v : List ℕ) where
       ∙ rw (ne-eqb j i (λ e. omega arith), shares-none ws (suc j) (omega arith))
 
 shares-at :
-    (ws : List Row) (v : List ℕ) (i j : ℕ) → shares (j + i) (ownersFrom j ws) (partsOf ws) v ≡ saidBy (getD ws i noRow .parts) v
-unfolding shares saidBy
+    (ws : List Row) (v : List ℕ) (i j : ℕ) → shares (j + i) (ownersFrom j ws) (partsOf ws) v ≡ shiftedBy (getD ws i noRow .parts) v
+unfolding shares shiftedBy
 shares-at [] v i j = refl
 shares-at (w ∷ ws) v zero j =
     shares-row (j + 0) v j (w .parts) (ownersFrom (suc j) ws) (partsOf ws)
@@ -75,7 +75,7 @@ abbrev noPart : Part
 noPart = part (register H) 0 0
 
 shares-of : (v : List ℕ) (i n k : ℕ) → k + n ≡ 29 → sharesOf v i k n ≡ shares i (drop k partRows) (drop k (partsOf rows)) v
-unfolding shares said
+unfolding shares shifted
 shares-of v i zero k e = rw (rw add-zero at e)
 shares-of v i (suc n) k e =
     rw (drop-cons partRows k 0 (omega arith), drop-cons (partsOf rows) k noPart (omega arith))
@@ -105,23 +105,23 @@ allPlaced : List Part → Bool
 allPlaced [] = true
 allPlaced (p ∷ ps) = isPlaced (p .target) && allPlaced ps
 
-said-encoded : (ps : List Part) (t : Registers) → T (allPlaced ps) → saidBy ps (values t) ≡ encoded ps t
-unfolding allPlaced saidBy said
-said-encoded [] t h = refl
-said-encoded (p ∷ ps) t h =
+shifted-encoded : (ps : List Part) (t : Registers) → T (allPlaced ps) → shiftedBy ps (values t) ≡ encoded ps t
+unfolding allPlaced shiftedBy shifted
+shifted-encoded [] t h = refl
+shifted-encoded (p ∷ ps) t h =
     ap₂ (λ (n m : ℕ). n * 2 ^ (p .low) + m) (held-at (p .target) t (and-left (isPlaced (p .target)) (allPlaced ps) h))
-    (said-encoded ps t (and-right (isPlaced (p .target)) (allPlaced ps) h))
+    (shifted-encoded ps t (and-right (isPlaced (p .target)) (allPlaced ps) h))
 
 -- what the parts say at most, where each register is a byte
 most : List Part → ℕ
 most [] = 0
 most (p ∷ ps) = 255 * 2 ^ (p .low) + most ps
 
-said-most : (ps : List Part) (v : List ℕ) → ((k : ℕ) → getD v k 0 ≤ 255) → saidBy ps v ≤ most ps
-unfolding saidBy said most
-said-most [] v b = omega arith
-said-most (p ∷ ps) v b =
-    add-le-add (mul-le-mul-right (2 ^ (p .low)) (b (placeOf (targetNumber (p .target)) v))) (said-most ps v b)
+shifted-most : (ps : List Part) (v : List ℕ) → ((k : ℕ) → getD v k 0 ≤ 255) → shiftedBy ps v ≤ most ps
+unfolding shiftedBy shifted most
+shifted-most [] v b = omega arith
+shifted-most (p ∷ ps) v b =
+    add-le-add (mul-le-mul-right (2 ^ (p .low)) (b (placeOf (targetNumber (p .target)) v))) (shifted-most ps v b)
 
 -- every row of the table
 rowsFit : List Row → Bool
@@ -152,16 +152,16 @@ module _ (i : ℕ) where
   code-at : getD codes i 0 ≡ getD rows i noRow .code
   code-at = List·getD-map (λ (w : Row). w .code) rows i noRow
 
-  all-said : (v : List ℕ) → sharesOf v i 0 29 ≡ saidBy (getD rows i noRow .parts) v
-  all-said v = shares-of v i 29 0 refl ∙ rw zero-add at (shares-at rows v i 0)
+  all-shifted : (v : List ℕ) → sharesOf v i 0 29 ≡ shiftedBy (getD rows i noRow .parts) v
+  all-shifted v = shares-of v i 29 0 refl ∙ rw zero-add at (shares-at rows v i 0)
 
   pub byte-of : (t : Registers) → byteOf (values t) i ≡ rowByte (getD rows i noRow) t
   unfolding byteOf
-  byte-of t = ap₂ (λ (n m : ℕ). n + m) code-at (all-said (values t) ∙ said-encoded (getD rows i noRow .parts) t placed)
+  byte-of t = ap₂ (λ (n m : ℕ). n + m) code-at (all-shifted (values t) ∙ shifted-encoded (getD rows i noRow .parts) t placed)
 
   pub byte-fits : (v : List ℕ) → ((k : ℕ) → getD v k 0 ≤ 255) → byteOf v i ≤ 65535
   unfolding byteOf
-  byte-fits v b = omega (arith, code-at, all-said v, said-most (getD rows i noRow .parts) v b, small)
+  byte-fits v b = omega (arith, code-at, all-shifted v, shifted-most (getD rows i noRow .parts) v b, small)
 
 -- ---- a part's lowest bit is a bit of a byte
 

@@ -15,20 +15,20 @@ enum-known-length c = search needs
 
 returns : tie.Need-returns
 returns c =
-    let told = c .before .before in
-    too-short _ _ _ _ (told .before .before .measure .ensures) _ _ (told .length .given .1) _ (c .if1 .taken)
+    let matched = c .before .before in
+    too-short _ _ _ _ (matched .before .before .measure .ensures) _ _ (matched .length .given .1) _ (c .if1 .taken)
 
 write-requires : tie.Need-write-requires
 write-requires c κs =
-    let told = c .before .before .before in
-    let start = told .before .before .before .before .before in
-    writable _ _ _ _ (told .before .before .measure .ensures) _ _ (told .length .given .1) (now (start .args .out)) (c .before .if1 .left)
+    let matched = c .before .before .before in
+    let start = matched .before .before .before .before .before in
+    writable _ _ _ _ (matched .before .before .measure .ensures) _ _ (matched .length .given .1) (now (start .args .out)) (c .before .if1 .left)
 
 mul-t11 : tie.Need-mul-t11
 mul-t11 c =
-    let told = c .before .before .before .before .before .before in
-    let start = told .before .before .before .before .before in
-    record { fits = clocks-room _ _ _ _ (told .before .before .measure .ensures) _ _ (told .length .given .1) (start .pre .0) }
+    let matched = c .before .before .before .before .before .before in
+    let start = matched .before .before .before .before .before in
+    record { fits = clocks-room _ _ _ _ (matched .before .before .measure .ensures) _ _ (matched .length .given .1) (start .pre .0) }
 
 returns-2 : tie.Need-returns-2
 returns-2 c = bad-line _ _ _ _ (c .before .before .before .measure .ensures) _ _ _ (c .before .number .given .1)
@@ -39,8 +39,8 @@ same-length c = search needs
 returns-3 : tie.Need-returns-3
 returns-3 c =
     let test = c .before .before .before .before in
-    let told = test .before .before in
-    written _ _ _ _ (told .before .before .measure .ensures) _ _ (told .length .given .1) _ (test .if1 .left) _ (c .before .before .write .ensures)
+    let matched = test .before .before in
+    written _ _ _ _ (matched .before .before .measure .ensures) _ _ (matched .length .given .1) _ (test .if1 .left) _ (c .before .before .write .ensures)
 
 pub compile-lines-spec : {M : Type 1} → statement M
 compile-lines-spec =

@@ -10,8 +10,8 @@ enum-known-line c = search needs
 
 count-requires : tie.Need-count-requires
 count-requires c κs =
-    let told = c .before in
-    valid-fill _ (told .before .before .pre .0) _ _ _ _ _ (told .line .given .1)
+    let matched = c .before in
+    valid-fill _ (matched .before .before .pre .0) _ _ _ _ _ (matched .line .given .1)
 
 enum-known-line-2 : tie.Need-enum-known-line-2
 enum-known-line-2 c = search needs
@@ -30,15 +30,15 @@ add-t13 c = omega (arith, c .commands-count .ensures, set-length-bound (c .befor
 
 returns : tie.Need-returns
 returns c =
-    let told = c .before .before in
-    let pre = told .before .before .pre in
-    fill-line-counts _ _ _ (pre .0) (pre .2) _ _ _ _ _ (told .line .given .1) (c .count .ensures)
+    let matched = c .before .before in
+    let pre = matched .before .before .pre in
+    fill-line-counts _ _ _ (pre .0) (pre .2) _ _ _ _ _ (matched .line .given .1) (c .count .ensures)
 
 returns-2 : tie.Need-returns-2
 returns-2 c =
-    let told = c .before .before in
-    let pre = told .before .before .pre in
-    set-line-counts _ _ _ (pre .0) (pre .2) (pre .1) _ _ (told .line2 .given .1) (c .commands-count .ensures)
+    let matched = c .before .before in
+    let pre = matched .before .before .pre in
+    set-line-counts _ _ _ (pre .0) (pre .2) (pre .1) _ _ (matched .line2 .given .1) (c .commands-count .ensures)
 
 pub count-spec : {M : Type 1} → statement M
 count-spec =

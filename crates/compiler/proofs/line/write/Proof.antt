@@ -11,9 +11,9 @@ enum-known-line c = search needs
 
 write-requires : tie.Need-write-requires
 write-requires c κs =
-    let told = c .before .before in
-    let start = told .before .before .before in
-    let is = told .line .given .1 in
+    let matched = c .before .before in
+    let start = matched .before .before .before in
+    let is = matched .line .given .1 in
     let events = fill-line-events (start .args .pins) _ (start .args .registers) _ _ _ _ _ is in
     (valid-fill _ (start .pre .0) _ _ _ _ _ is, omega (arith, start .pre .1, ap length events))
 
@@ -26,9 +26,9 @@ with-field-requires c κs = search needs
 set-requires : tie.Need-set-requires
 set-requires c κs =
     let target = c .before in
-    let told = target .before .before in
-    let start = told .before .before .before in
-    let room = set-room (start .args .pins) _ (start .args .registers) _ _ _ (told .line2 .given .1) (target .with-field .ensures) in
+    let matched = target .before .before in
+    let start = matched .before .before .before in
+    let room = set-room (start .args .pins) _ (start .args .registers) _ _ _ (matched .line2 .given .1) (target .with-field .ensures) in
     omega (arith, start .pre .1, room)
 
 same-length : tie.Need-same-length
@@ -37,9 +37,9 @@ same-length c = search needs
 returns : tie.Need-returns
 returns c =
     let written = c .before .before in
-    let told = written .before .before .before in
-    let start = told .before .before .before .args in
-    fill-line-wrote (start .pins) (start .line) (start .registers) _ _ _ _ _ (told .line .given .1) (written .write .ensures)
+    let matched = written .before .before .before in
+    let start = matched .before .before .before .args in
+    fill-line-wrote (start .pins) (start .line) (start .registers) _ _ _ _ _ (matched .line .given .1) (written .write .ensures)
 
 same-length-2 : tie.Need-same-length-2
 same-length-2 c = search needs
@@ -48,9 +48,9 @@ returns-2 : tie.Need-returns-2
 returns-2 c =
     let written = c .before .before in
     let target = written .before .before in
-    let told = target .before .before in
-    let start = told .before .before .before .args in
-    set-line-wrote (start .pins) (start .line) (start .registers) _ _ _ (told .line2 .given .1) (target .with-field .ensures)
+    let matched = target .before .before in
+    let start = matched .before .before .before .args in
+    set-line-wrote (start .pins) (start .line) (start .registers) _ _ _ (matched .line2 .given .1) (target .with-field .ensures)
     (written .set .ensures)
 
 pub write-spec : {M : Type 1} → statement M

@@ -41,22 +41,22 @@ count-requires c κs =
 add-length : tie.Need-add-length Inv-loop μ-loop
 add-length c =
     let counted = c .before in
-    let told = counted .before .before in
-    let found = told .before .before in
+    let matched = counted .before .before in
+    let found = matched .before .before in
     let test = found .before in
     let room =
-    measuring-room (test .before .loop .inv) (test .loop-test .taken) _ (found .line-at .ensures) _ (told .parsed2 .given .1) _ (counted .count .ensures)
+    measuring-room (test .before .loop .inv) (test .loop-test .taken) _ (found .line-at .ensures) _ (matched .parsed2 .given .1) _ (counted .count .ensures)
     in
     omega (arith, room .0)
 
 add-bytes : tie.Need-add-bytes Inv-loop μ-loop
 add-bytes c =
     let counted = c .before .before in
-    let told = counted .before .before in
-    let found = told .before .before in
+    let matched = counted .before .before in
+    let found = matched .before .before in
     let test = found .before in
     let room =
-    measuring-room (test .before .loop .inv) (test .loop-test .taken) _ (found .line-at .ensures) _ (told .parsed2 .given .1) _ (counted .count .ensures)
+    measuring-room (test .before .loop .inv) (test .loop-test .taken) _ (found .line-at .ensures) _ (matched .parsed2 .given .1) _ (counted .count .ensures)
     in
     omega (arith, room .1)
 
@@ -77,10 +77,10 @@ loop-less c =
 loop-again : tie.Need-loop-again Inv-loop μ-loop
 loop-again c =
     let counted = c .before .before .before in
-    let told = counted .before .before in
-    let found = told .before .before in
+    let matched = counted .before .before in
+    let found = matched .before .before in
     let test = found .before in
-    measuring-turn (test .before .loop .inv) (test .loop-test .taken) _ (found .line-at .ensures) _ (told .parsed2 .given .1) _ (counted .count .ensures) _
+    measuring-turn (test .before .loop .inv) (test .loop-test .taken) _ (found .line-at .ensures) _ (matched .parsed2 .given .1) _ (counted .count .ensures) _
     (c .registers-after .ensures)
 
 returns-2 : tie.Need-returns-2 Inv-loop μ-loop

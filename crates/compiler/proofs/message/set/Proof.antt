@@ -31,10 +31,10 @@ commands-requires c κs =
 
 put-requires : tie.Need-put-requires
 put-requires c κs =
-    let told = c .before .before .before in
-    let started = told .before .before .before .before .before in
+    let matched = c .before .before .before in
+    let started = matched .before .before .before .before .before in
     let said = started .before .before .before .before .set-commands .ensures in
-    omega (arith, started .pair .ensures .next, said-next _ _ _ said (told .commands .ensures))
+    omega (arith, started .pair .ensures .next, said-next _ _ _ said (matched .commands .ensures))
 
 same-length : tie.Need-same-length
 same-length c = search needs
@@ -42,10 +42,10 @@ same-length c = search needs
 returns : tie.Need-returns
 returns c =
     let stopped = c .before .before in
-    let told = stopped .before .before .before .before in
-    let started = told .before .before .before .before .before in
+    let matched = stopped .before .before .before .before in
+    let started = matched .before .before .before .before .before in
     let said = started .before .before .before .before .set-commands .ensures in
-    message-wrote _ _ _ _ (started .before .write-address .ensures) (said .0) (started .pair .ensures) (told .commands .ensures) (stopped .put .ensures)
+    message-wrote _ _ _ _ (started .before .write-address .ensures) (said .0) (started .pair .ensures) (matched .commands .ensures) (stopped .put .ensures)
 
 pub set-spec : {M : Type 1} → statement M
 set-spec =

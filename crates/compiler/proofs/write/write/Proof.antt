@@ -38,28 +38,28 @@ enum-known-parsed c = search needs
 
 write-requires : tie.Need-write-requires Inv-loop μ-loop
 write-requires c κs =
-    let told = c .before .before in
-    let found = told .before .before in
+    let matched = c .before .before in
+    let found = matched .before .before in
     let test = found .before in
-    writing-room (test .before .loop .inv) (test .loop-test .taken) _ (found .line-at .ensures) _ (told .parsed .given .1)
+    writing-room (test .before .loop .inv) (test .loop-test .taken) _ (found .line-at .ensures) _ (matched .parsed .given .1)
 
 registers-after-requires : tie.Need-registers-after-requires Inv-loop μ-loop
 registers-after-requires c κs = search needs
 
 loop-less : tie.Need-loop-less Inv-loop μ-loop
 loop-less c =
-    let told = c .before .before .before .before .before .before in
-    let found = told .before .before in
+    let matched = c .before .before .before .before .before .before in
+    let found = matched .before .before in
     let here = found .before .loop-test .taken in
     omega (arith, here, reading-next _ _ 1 here _ (found .line-at .ensures))
 
 loop-again : tie.Need-loop-again Inv-loop μ-loop
 loop-again c =
     let written = c .before .before .before in
-    let told = written .before .before .before in
-    let found = told .before .before in
+    let matched = written .before .before .before in
+    let found = matched .before .before in
     let test = found .before in
-    writing-turn (test .before .loop .inv) (test .loop-test .taken) _ (found .line-at .ensures) _ (told .parsed .given .1) _ _ _
+    writing-turn (test .before .loop .inv) (test .loop-test .taken) _ (found .line-at .ensures) _ (matched .parsed .given .1) _ _ _
     (search needs) (written .write .ensures) (c .registers-after .ensures)
 
 same-length-2 : tie.Need-same-length-2 Inv-loop μ-loop
