@@ -37,6 +37,12 @@ fn is_good(chip: Chip, list: &[u8]) -> bool {
     false
 }
 
+// The chip after a line's events, and whether they could be printed.
+struct Drawn {
+    chip: Chip,
+    printed: bool,
+}
+
 // One line's events, printed and played: the next line is compiled for the registers that they leave.
 fn draw_line(
     chip: Chip,
@@ -44,26 +50,40 @@ fn draw_line(
     out: &mut [u16],
     memory: &mut [u8],
     writers: &mut [u64],
-) -> Chip {
+) -> Drawn {
     let numbers = compiler::compile(chip, line, out).numbers();
     let n = numbers.length as usize;
     if numbers.number != 0 {
-        return chip;
+        return Drawn {
+            chip,
+            printed: true,
+        };
     }
     if out.len() < n {
-        return chip;
+        return Drawn {
+            chip,
+            printed: true,
+        };
     }
-    output::events(&out[..n]);
-    engine::run::run(chip, memory, writers, &out[..n]).chip
+    let printed = output::events(&out[..n]);
+    let after = engine::run::run(chip, memory, writers, &out[..n]).chip;
+    Drawn {
+        chip: after,
+        printed,
+    }
 }
 
-// Line by line, so that the stream of a long list, millions of events, is never held as a whole.
+// Line by line, so that the stream of a long list, millions of events, is never held as a whole. It ends at the first that can't be printed.
 fn draw(chip: Chip, list: &[u8], out: &mut [u16], memory: &mut [u8], writers: &mut [u64]) {
     let mut now = chip;
     let mut at = 0;
     while at < list.len() {
         let next = lists::line_at(list, at).next;
-        now = draw_line(now, &list[at..next], out, memory, writers);
+        let drawn = draw_line(now, &list[at..next], out, memory, writers);
+        if !drawn.printed {
+            return;
+        }
+        now = drawn.chip;
         at = next;
     }
 }
@@ -73,8 +93,7 @@ fn draw_good(chip: Chip, list: &[u8]) {
     let mut out = [0u16; 2727];
     let mut memory = [0u8; 1717];
     let mut writers = [0u64; 1717];
-    if is_good(chip, list) {
-        output::first_line(chip.pins);
+    if is_good(chip, list) && output::first_line(chip.pins) {
         draw(chip, list, &mut out, &mut memory, &mut writers);
     }
 }

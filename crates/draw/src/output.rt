@@ -1,4 +1,4 @@
-// What is printed: a capture's lines, or why the compiler refuses the list.
+// What is printed: a capture's lines, or why the compiler refuses the list. Each answers whether the system took it; where it did not, that has been said.
 ghost use mathlib.Core.Path.{_≡_};
 ghost use Rattle.print.specs.Printed.{Wrote};
 ghost use Rattle.draw.specs.Lines.{eventsText};
@@ -7,20 +7,24 @@ const TAB: u8 = 9;
 
 const NEWLINE: u8 = 10;
 
+fn put(text: &[u8], n: usize) -> bool {
+    program_io::put(text, n, b"draw: standard output")
+}
+
 // `refused`, the number, and the line, which is 0 where there is none.
-pub fn refused(number: u64, line: u64) {
+pub fn refused(number: u64, line: u64) -> bool {
     let mut out = [0u8; 64];
     let word = print::bytes(b"refused\t", &mut out, 0);
     let after_number = print::field(number, TAB, &mut out, word);
     let length = print::field(line, NEWLINE, &mut out, after_number);
-    program_io::put(&out, length);
+    put(&out, length)
 }
 
-pub fn first_line(pins: u8) {
+pub fn first_line(pins: u8) -> bool {
     let mut out = [0u8; 64];
     let word = print::bytes(b"pins\t", &mut out, 0);
     let length = print::field(pins as u64, NEWLINE, &mut out, word);
-    program_io::put(&out, length);
+    put(&out, length)
 }
 
 fn number(event: u16) -> u64
@@ -43,8 +47,8 @@ fn lines(events: &[u16], out: &mut [u8]) -> usize
 }
 
 // The events of a line of the list, at most 2,727 of three digits: they have room.
-pub fn events(events: &[u16]) {
+pub fn events(events: &[u16]) -> bool {
     let mut out = [0u8; 10908];
     let length = lines(events, &mut out);
-    program_io::put(&out, length);
+    put(&out, length)
 }

@@ -15,9 +15,9 @@ pub fn say(message: &[u8])
     io::write_all(libc::STDERR_FILENO, message);
 }
 
-// The first n bytes of the text on standard output. Whether all of them were taken: never where the text has fewer. Where they were not,
-// that has been said.
-pub fn put(text: &[u8], n: usize) -> bool
+// The first n bytes of the text on standard output. Whether all of them were taken. Where the system did not take them, that has been said, by the
+// name that the caller gives the output, its program's name in front. Where the text has fewer bytes, nothing is put and nothing said.
+pub fn put(text: &[u8], n: usize, name: &[u8]) -> bool
     ensures { λ r. ⌜ (r ≡ true → n ≤ length (now (text .entry))) ⌝ }
 {
     if text.len() < n {
@@ -26,7 +26,7 @@ pub fn put(text: &[u8], n: usize) -> bool
     if io::write_all(libc::STDOUT_FILENO, &text[..n]) {
         return true;
     }
-    os::fail(b"standard output");
+    os::fail(name);
     false
 }
 

@@ -13,7 +13,7 @@ fn replay(fd: i32) {
     // No listing is longer than 54,967 bytes.
     let mut out = io::large_buffer();
     let length = listing::replay_text(end, &memory, &writers, &mut out).length();
-    program_io::put(&out, length);
+    program_io::put(&out, length, b"replay: standard output");
 }
 
 fn main() {

@@ -15,14 +15,14 @@ fn room() -> [u8; 81218]
 fn show(chip: Chip, memory: &[u8]) {
     let mut out = room();
     let length = picture::pixmap(chip, memory, &mut out).length();
-    program_io::put(&out, length);
+    program_io::put(&out, length, b"view: standard output");
 }
 
 // The line of a capture that is bad.
 fn refused(end: End, memory: &[u8], writers: &[u64]) {
     let mut out = [0u8; 64];
     let length = listing::replay_text(end, memory, writers, &mut out).length();
-    program_io::put(&out, length);
+    program_io::put(&out, length, b"view: standard output");
 }
 
 fn tell(end: End, memory: &[u8], writers: &[u64]) {

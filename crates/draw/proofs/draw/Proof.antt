@@ -32,15 +32,6 @@ part-draw-line-end c = omega (arith, reading-next _ _ 1 (c .before .loop-test .t
 draw-line-requires : tie.Need-draw-line-requires Inv-loop μ-loop
 draw-line-requires c κs = search needs
 
-loop-less : tie.Need-loop-less Inv-loop μ-loop
-loop-less c =
-    let line = c .before .before .before .before .before .before .before .before .before .before .before in
-    let test = line .before .loop-test .taken in
-    omega (arith, test, reading-next _ _ 1 test _ (line .line-at .ensures))
-
-loop-again : tie.Need-loop-again Inv-loop μ-loop
-loop-again c = (search needs, search needs, search needs)
-
 same-length : tie.Need-same-length Inv-loop μ-loop
 same-length c = search needs
 
@@ -52,6 +43,28 @@ same-length-3 c = search needs
 
 returns : tie.Need-returns Inv-loop μ-loop
 returns c = search needs
+
+loop-less : tie.Need-loop-less Inv-loop μ-loop
+loop-less c =
+    let call = c .before .before .before .before .before .before .before .before .before in
+    let line = call .before .before .before .before .before in
+    let test = line .before .loop-test .taken in
+    omega (arith, test, reading-next _ _ 1 test _ (line .line-at .ensures))
+
+loop-again : tie.Need-loop-again Inv-loop μ-loop
+loop-again c = (search needs, search needs, search needs)
+
+same-length-4 : tie.Need-same-length-4 Inv-loop μ-loop
+same-length-4 c = search needs
+
+same-length-5 : tie.Need-same-length-5 Inv-loop μ-loop
+same-length-5 c = search needs
+
+same-length-6 : tie.Need-same-length-6 Inv-loop μ-loop
+same-length-6 c = search needs
+
+returns-2 : tie.Need-returns-2 Inv-loop μ-loop
+returns-2 c = search needs
 
 pub draw-spec : {M : Type 1} → statement M
 draw-spec =
@@ -65,9 +78,13 @@ draw-spec =
     part-draw-line-start
     part-draw-line-end
     draw-line-requires
-    loop-less
-    loop-again
     same-length
     same-length-2
     same-length-3
-    returns)
+    returns
+    loop-less
+    loop-again
+    same-length-4
+    same-length-5
+    same-length-6
+    returns-2)

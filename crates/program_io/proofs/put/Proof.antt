@@ -17,9 +17,6 @@ write-all-requires c κs = search needs
 returns-2 : tie.Need-returns-2
 returns-2 c = search needs
 
-slice-aggregate-fail : tie.Need-slice-aggregate-fail
-slice-aggregate-fail c = search needs
-
 fail-requires : tie.Need-fail-requires
 fail-requires c κs = search needs
 
@@ -34,6 +31,5 @@ put-spec =
     slice-aggregate-write-all
     write-all-requires
     returns-2
-    slice-aggregate-fail
     fail-requires
     returns-3)
