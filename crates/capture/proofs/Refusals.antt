@@ -3,9 +3,9 @@ use mathlib.Core.Bool.{Bool, true, false, cond, not, _&&_, _||_}
 use mathlib.Core.List.{List, [], _∷_}
 use mathlib.Core.Logic.{_⊎_, inl, inr, ⊎-elim}
 use mathlib.Core.Path.{_≡_, refl, subst}
-use Prim.Native.Nat.{ℕ, zero, suc, _≤_}
+use Prim.Native.Nat.{ℕ, zero, suc, _+_, _≤_}
 use native.Mathlib.Omega.{arith}
-use borrow.Author.Tests.{eq-eqb, eqb-true, eqb-false, le-leb, leb-true}
+use borrow.Author.Tests.{eq-eqb, eqb-true, eqb-false, le-leb, leb-true, ltb-true}
 use lib.Dec.{eqb, leb, ltb}
 use lib.ListN.{length, getD}
 use Rattle.registers.specs.Record.{allowed}
@@ -19,7 +19,7 @@ use Rattle.chip.proofs.Laws.{run-stays-fit}
 use Rattle.capture_lines.specs.declared.LineSoFar.{LineSoFar}
 use Rattle.capture_lines.specs.declared.LineSoFar.the-variants.{First, Pins, Empty, Number, BadFirst, Bad}
 use Rattle.capture_lines.specs.Line.{newline, word}
-use Rattle.capture_lines.specs.SoFar.{isPins, takesDigit, withByte, withBytes}
+use Rattle.capture_lines.specs.SoFar.{isPins, onWord, takesDigit, withByte, withBytes}
 use Rattle.capture.specs.Feeding.{Playing, playing, lineAfter, endedLine, withNext, bytesFed, lineAllowed, captureAllowed, keptRefusal, partRefusal}
 use Rattle.capture.specs.Replay.{refusedBy, started, replayLines, replayOf}
 use Rattle.capture.specs.Where.{Lent, Passed, PartWhen}
@@ -113,9 +113,18 @@ pins-digit b = go (leb 48 b) (leb b 51) refl
     go true true e = le-leb (digitValue b) 3 (omega (arith, leb-true b 51 e))
     go true false e = refl
 
+word-byte : (k b : ℕ) → lineAllowed (onWord k b) ≡ true
+word-byte k b = go (ltb k 5) refl
+  where
+    go :
+        (t : Bool) → ltb k 5 ≡ t
+        → lineAllowed (cond t (cond (eqb b (getD word k 0)) (First (k + 1)) BadFirst) (cond (isPins b) (Pins (digitValue b)) BadFirst)) ≡ true
+    go true e = either (eqb b (getD word k 0)) _ _ (le-leb (k + 1) 5 (omega (arith, ltb-true k 5 e))) refl
+    go false e = pins-digit b
+
 with-byte-allowed : (l : LineSoFar) (b : ℕ) → lineAllowed (withByte l b) ≡ true
 unfolding withByte
-with-byte-allowed (First k) b = either (ltb k 5) _ _ (either (eqb b (getD word k 0)) _ _ refl refl) (pins-digit b)
+with-byte-allowed (First k) b = word-byte k b
 with-byte-allowed (Pins p) b = refl
 with-byte-allowed Empty b = either (isDigit b) _ _ refl refl
 with-byte-allowed (Number n) b = either (takesDigit n && isDigit b) _ _ refl refl

@@ -62,9 +62,9 @@ bytesFed (b ∷ bs) p = bytesFed bs (withNext b p)
 
 -- ---- a part
 
--- the pins of the first line, once they are read, are 0 to 3
+-- of the first line, up to 5 bytes of `pins` and the tab behind it are read, then the pins, which are 0 to 3
 abbrev pub lineAllowed : LineSoFar → Bool
-lineAllowed (First k) = true
+lineAllowed (First k) = leb k 5
 lineAllowed (Pins p) = leb p 3
 lineAllowed Empty = true
 lineAllowed (Number n) = true
@@ -74,7 +74,7 @@ lineAllowed Bad = true
 abbrev pub captureAllowed : LineSoFar → Chip → Bool
 captureAllowed l c = allowed c && lineAllowed l
 
--- 2: the chip that was kept, or the one that the pins of the line will give, is not allowed
+-- 2: the chip that was kept is not allowed, or no bytes lead to the first line that was
 abbrev pub keptRefusal : LineSoFar → Chip → ℕ
 keptRefusal l c = refuse (not (captureAllowed l c)) 2
 

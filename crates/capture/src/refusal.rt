@@ -6,12 +6,12 @@ use crate::Capture;
 use capture_lines::LineSoFar;
 use registers::Chip;
 
-// The pins of the first line, once they are read, are 0 to 3.
+// Of the first line, up to 5 bytes of `pins` and the tab behind it are read, then the pins, which are 0 to 3.
 fn line_allowed(line: LineSoFar) -> bool
     ensures { λ r. ⌜ r ≡ lineAllowed line ⌝ }
 {
     match line {
-        LineSoFar::First(_) => true,
+        LineSoFar::First(read) => read <= 5,
         LineSoFar::Pins(pins) => pins <= 3,
         LineSoFar::Empty => true,
         LineSoFar::Number(_) => true,
@@ -20,7 +20,7 @@ fn line_allowed(line: LineSoFar) -> bool
     }
 }
 
-// 2: the chip that was kept, or the one that the pins of the line will give, is not allowed.
+// 2: the chip that was kept is not allowed, or no bytes lead to the first line that was.
 pub fn of_kept(line: LineSoFar, chip: Chip) -> u8
     ensures { λ r. ⌜ r ≡ keptRefusal line chip ⌝ }
 {

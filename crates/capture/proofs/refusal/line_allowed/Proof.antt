@@ -4,11 +4,14 @@ use borrow.Author.Needs.{needs}
 use Rattle.capture.proofs.refusal.line_allowed.Statement.{statement}
 use Rattle.capture.proofs.refusal.line_allowed.Tie as tie
 
-enum-told : tie.Need-enum-told
-enum-told c = search needs
-
 enum-known-line : tie.Need-enum-known-line
 enum-known-line c = search needs
+
+enum-known-line-2 : tie.Need-enum-known-line-2
+enum-known-line-2 c = search needs
+
+enum-told : tie.Need-enum-told
+enum-told c = search needs
 
 enum-told-2 : tie.Need-enum-told-2
 enum-told-2 c = search needs
@@ -19,14 +22,11 @@ enum-told-3 c = search needs
 enum-told-4 : tie.Need-enum-told-4
 enum-told-4 c = search needs
 
-enum-told-5 : tie.Need-enum-told-5
-enum-told-5 c = search needs
-
 returns : tie.Need-returns
-returns c = search needs
+returns c = allowed-known _ _ (c .before .line .given .1) _ refl
 
 returns-2 : tie.Need-returns-2
-returns-2 c = allowed-known _ _ (c .before .line .given .1) _ refl
+returns-2 c = allowed-known _ _ (c .before .line2 .given .1) _ refl
 
 returns-3 : tie.Need-returns-3
 returns-3 c = search needs
@@ -44,12 +44,12 @@ pub line-allowed-spec : {M : Type 1} → statement M
 line-allowed-spec =
     tie.close
     (tie.spec
-    enum-told
     enum-known-line
+    enum-known-line-2
+    enum-told
     enum-told-2
     enum-told-3
     enum-told-4
-    enum-told-5
     returns
     returns-2
     returns-3
