@@ -51,6 +51,18 @@ from-fit n (e ∷ es) s fit = go (refusalOf e s) _ (from-fit (n + 1) es (accepte
 
 -- ---- step by step
 
+-- no events: only the entry can refuse
+nothing-done : (s : State) (k : ℕ) → entryRefusal s ≡ k → StepByStep [] s (outcome 0 k s)
+nothing-done s k q =
+    record {
+      ends = refl;
+      no-more = zero-le;
+      accepted = λ i h. absurd (omega arith);
+      stopped = λ h. absurd (omega arith);
+      refused = λ h. absurd (omega arith);
+      finished = λ h. sym q;
+    }
+
 -- nothing was done, and the first event is refused
 refused-first : (e : ℕ) (es : List ℕ) (s : State) (k : ℕ) → refusalOf e s ≡ suc k → StepByStep (e ∷ es) s (outcome 0 (suc k) s)
 refused-first e es s k q =
@@ -79,8 +91,7 @@ first-done e es s o q fit rest =
 
 pub from-steps : (es : List ℕ) (s : State) → Fit s → StepByStep es s (runFrom 0 es s)
 unfolding runFrom
-from-steps [] s fit =
-    record { ends = refl; no-more = zero-le; accepted = λ i h. absurd (omega arith); stopped = λ h. absurd (omega arith); refused = λ h. absurd (omega arith); finished = λ h. sym (fit-entry s fit) }
+from-steps [] s fit = nothing-done s 0 (fit-entry s fit)
 from-steps (e ∷ es) s fit = go (refusalOf e s) refl (from-steps es (accepted e s .state) (accepted-fit e s fit))
   where
     go :
@@ -97,6 +108,5 @@ from-steps (e ∷ es) s fit = go (refusalOf e s) refl (from-steps es (accepted e
 -- refused at entry: so is the first event, if there is one
 pub entry-stops : (es : List ℕ) (s : State) (k : ℕ) → entryRefusal s ≡ suc k → StepByStep es s (outcome 0 (suc k) s)
 unfolding refusalOf
-entry-stops [] s k q =
-    record { ends = refl; no-more = zero-le; accepted = λ i h. absurd (omega arith); stopped = λ h. absurd (omega arith); refused = λ h. absurd (omega arith); finished = λ h. sym q }
+entry-stops [] s k q = nothing-done s (suc k) q
 entry-stops (e ∷ es) s k q = refused-first e es s k (rw q)
