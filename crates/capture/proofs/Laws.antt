@@ -24,14 +24,14 @@ use Rattle.capture.specs.Replay.{refusedBy, refusedAt, replayed, started
 use Rattle.capture.specs.Where.{Lent, PartWhen, Small, Replayed, NoFirstLine, StoppedAfter}
 use Rattle.capture.proofs.Courses.{Ended, all-replayed, refused-first, refused-after, ended}
 use Rattle.capture.proofs.Feeds.{feed-refused, feed-passed, feed-append, feed-over, fedResult, text-replayed, fed-end}
-use Rattle.capture.proofs.Refusals.{by-lent, replay-not-lent, part-verdict, part-when, none-refused}
+use Rattle.capture.proofs.Refusals.{by-lent, replay-not-lent, part-refusal-when, part-when, none-refused}
 use Rattle.capture.proofs.Written.{capture-played, so-replayed, so-stopped, all-done-fit}
 
 -- ---- refusals by a number
 
 -- a part is refused exactly when document 01's table says: 1 and then 2
 pub part-refused-exactly : (part : List ℕ) (p : Playing) (k : ℕ) → (feedOf part p .refusal ≡ k) ↔ PartWhen p k
-part-refused-exactly part p k = (λ e. subst (λ (n : ℕ). PartWhen p n) (sym number ∙ e) (part-verdict p), λ h. number ∙ part-when p k h)
+part-refused-exactly part p k = (λ e. subst (λ (n : ℕ). PartWhen p n) (sym number ∙ e) (part-refusal-when p), λ h. number ∙ part-when p k h)
   where
     number : feedOf part p .refusal ≡ partRefusal p
     number = go (partRefusal p) refl

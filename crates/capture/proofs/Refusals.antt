@@ -76,8 +76,8 @@ module _ (p : Playing) where
         line-allowed = both .1;
       }
 
-  pub part-verdict : PartWhen p (partRefusal p)
-  part-verdict =
+  pub part-refusal-when : PartWhen p (partRefusal p)
+  part-refusal-when =
       decided (eqb (length (p .state .memory)) places) (eqb (length (p .state .writers)) places) (captureAllowed (p .line) (p .state .chip)) refl refl refl
 
   pub part-when : (k : ℕ) → PartWhen p k → partRefusal p ≡ k
@@ -87,7 +87,7 @@ module _ (p : Playing) where
   part-when (suc (suc (suc k))) h = absurd h
 
   pub none-refused : partRefusal p ≡ 0 → Passed p
-  none-refused e = subst (λ (k : ℕ). PartWhen p k) e part-verdict
+  none-refused e = subst (λ (k : ℕ). PartWhen p k) e part-refusal-when
 
   pub kept-none : Passed p → keptRefusal (p .line) (p .state .chip) ≡ 0
   kept-none h = simp (h .fit .is-allowed, h .line-allowed)

@@ -124,7 +124,8 @@ events-fed (b ∷ bs) p s fit = go (eqb b newline) (split newline bs) (split-som
   where
     go :
         (t : Bool) (qs : List (List ℕ)) → 0 < length qs
-        → ((q : List ℕ) (s′ : State) → Fit s′ → resultOf (bytesFed bs (playing (eventLine q) s′)) ≡ playFrom (s′ .chip .count) (eventsOf (onto q qs)) s′)
+        → ((q : List ℕ) (s′ : State) → Fit s′
+        → resultOf (bytesFed bs (playing (eventLine q) s′)) ≡ playFrom (s′ .chip .count) (eventsOf (onto q qs)) s′)
         → resultOf (bytesFed bs (cond t (endedLine (eventLine p) s) (playing (withByte (eventLine p) b) s)))
         ≡ playFrom (s .chip .count) (eventsOf (onto p (cond t ([] ∷ qs) (onFirst b qs)))) s
     go t [] l h = absurd (omega arith)

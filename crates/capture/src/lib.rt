@@ -42,7 +42,8 @@ pub fn start() -> Capture
 
 // The bytes of a part that is not refused.
 fn feed_bytes(capture: Capture, memory: &mut [u8], writers: &mut [u64], part: &[u8]) -> Capture
-    ensures { λ r. ⌜ kept r (now (memory .exit)) (now (writers .exit)) ≡ bytesFed (now (part .entry)) (kept capture (now (memory .entry)) (now (writers .entry))) ⌝ }
+    ensures { λ r. ⌜ kept r (now (memory .exit)) (now (writers .exit))
+        ≡ bytesFed (now (part .entry)) (kept capture (now (memory .entry)) (now (writers .entry))) ⌝ }
 {
     let mut chip = capture.chip;
     let mut line = capture.line;
@@ -64,7 +65,8 @@ fn feed_bytes(capture: Capture, memory: &mut [u8], writers: &mut [u64], part: &[
 // The next bytes, any number of them. The memories are those that the events write; at the start of a capture they are lent as zeros.
 // Refused by 1 or 2, also with no bytes; then nothing is changed.
 pub fn feed(capture: Capture, memory: &mut [u8], writers: &mut [u64], part: &[u8]) -> Fed
-    ensures { λ r. ⌜ fed (r .refusal) (r .capture) (now (memory .exit)) (now (writers .exit)) ≡ feedOf (now (part .entry)) (kept capture (now (memory .entry)) (now (writers .entry))) ⌝ }
+    ensures { λ r. ⌜ fed (r .refusal) (r .capture) (now (memory .exit)) (now (writers .exit))
+        ≡ feedOf (now (part .entry)) (kept capture (now (memory .entry)) (now (writers .entry))) ⌝ }
 {
     let refused = refusal::of_part(capture, memory.len(), writers.len());
     if refused != 0 {

@@ -19,7 +19,8 @@ fn line_after(refusal: u8) -> LineSoFar
 }
 
 fn play(event: u16, chip: Chip, memory: &mut [u8], writers: &mut [u64]) -> Capture
-    ensures { λ r. ⌜ kept r (now (memory .exit)) (now (writers .exit)) ≡ played (runOf (event ∷ []) (state chip (now (memory .entry)) (now (writers .entry)))) ⌝ }
+    ensures { λ r. ⌜ kept r (now (memory .exit)) (now (writers .exit))
+        ≡ played (runOf (event ∷ []) (state chip (now (memory .entry)) (now (writers .entry)))) ⌝ }
 {
     let events = [event];
     let ran = engine::run::run(chip, memory, writers, &events);
@@ -31,7 +32,8 @@ fn play(event: u16, chip: Chip, memory: &mut [u8], writers: &mut [u64]) -> Captu
 }
 
 pub fn end_line(chip: Chip, line: LineSoFar, memory: &mut [u8], writers: &mut [u64]) -> Capture
-    ensures { λ r. ⌜ kept r (now (memory .exit)) (now (writers .exit)) ≡ endedLine line (state chip (now (memory .entry)) (now (writers .entry))) ⌝ }
+    ensures { λ r. ⌜ kept r (now (memory .exit)) (now (writers .exit))
+        ≡ endedLine line (state chip (now (memory .entry)) (now (writers .entry))) ⌝ }
 {
     match line {
         LineSoFar::First(_) => Capture {

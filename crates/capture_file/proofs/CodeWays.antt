@@ -24,8 +24,9 @@ use Rattle.capture_file.specs.Played.{TurnOfSome, mostCalls, Enough, non
 
 -- the way through a turn; the number that was answered has gone through the bits of an `isize`
 pub taken :
-    (got z : ℤ) (buffer : List ℕ) (p : Playing) (f : PartFed) (n : ℕ) (over : Bool) → z ≡ got → n ≡ clamped z (length buffer) → f ≡ feedOf (take n buffer) p
-    → over ≡ isOver f → _≡_ {A = Turned} (record { after = f; more = ltb 0 n && not over; failed = ltZ z (pos 0) }) (takenIn (answerOf got buffer) p)
+    (got z : ℤ) (buffer : List ℕ) (p : Playing) (f : PartFed) (n : ℕ) (over : Bool)
+    → z ≡ got → n ≡ clamped z (length buffer) → f ≡ feedOf (take n buffer) p → over ≡ isOver f
+    → _≡_ {A = Turned} (record { after = f; more = ltb 0 n && not over; failed = ltZ z (pos 0) }) (takenIn (answerOf got buffer) p)
 unfolding takenIn
 taken got z buffer p f n over ez en ef eo = rw (eo, ef, en, ez)
 
@@ -81,8 +82,9 @@ text-taken k c m w xs ys p z e =
     subst (λ (j : ℕ). feedOf ys (kept c m w) ≡ thenFed (fed j c m w) ys) (sym z) refl ∙ ap (λ (f : PartFed). thenFed f ys) e ∙ sym (cut-anywhere xs ys p)
 
 pub turn-fed :
-    {m₀ w₀ m w m′ w′ : List ℕ} {f : Fed} {more failed : Bool} {turns : ℕ} (t : Turn) → FedSoFar m₀ w₀ f m w more failed turns → 0 < turns → more ≡ true
-    → TurnOfSome t m′ w′ (kept (f .capture) m w) → FedSoFar m₀ w₀ (t .fed) m′ w′ (t .more) (t .failed) (turns - 1)
+    {m₀ w₀ m w m′ w′ : List ℕ} {f : Fed} {more failed : Bool} {turns : ℕ} (t : Turn)
+    → FedSoFar m₀ w₀ f m w more failed turns → 0 < turns → more ≡ true → TurnOfSome t m′ w′ (kept (f .capture) m w)
+    → FedSoFar m₀ w₀ (t .fed) m′ w′ (t .more) (t .failed) (turns - 1)
 unfolding takenIn
 turn-fed {m₀} {w₀} {m} {w} {m′} {w′} {f = f} t so-far left on turn =
     record {

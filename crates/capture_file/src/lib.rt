@@ -32,7 +32,8 @@ pub fn take_in(
     memory: &mut [u8],
     writers: &mut [u64],
 ) -> Turn
-    ensures { λ r. ⌜ turned r (now (memory .exit)) (now (writers .exit)) ≡ takenIn (answerOf got (now (buf .entry))) (kept capture (now (memory .entry)) (now (writers .entry))) ⌝ }
+    ensures { λ r. ⌜ turned r (now (memory .exit)) (now (writers .exit))
+        ≡ takenIn (answerOf got (now (buf .entry))) (kept capture (now (memory .entry)) (now (writers .entry))) ⌝ }
 {
     let n = io::count(got, buf);
     let fed = capture::feed(capture, memory, writers, &buf[..n]);

@@ -40,7 +40,8 @@ second a b = go (isDigit a) refl (isLeading a) refl
   where
     go :
         (t : Bool) → isDigit a ≡ t → (l : Bool) → isLeading a ≡ l
-        → withByte (ofNumber (cond t (Value (digitValue a)) Malformed)) b ≡ ofNumber (cond (l && isDigit b) (Value (digitValue a * 10 + digitValue b)) Malformed)
+        → withByte (ofNumber (cond t (Value (digitValue a)) Malformed)) b
+        ≡ ofNumber (cond (l && isDigit b) (Value (digitValue a * 10 + digitValue b)) Malformed)
     go false et true el = absurd (subst T (sym (leading-digit a el) ∙ et) tt)
     go false et false el = refl
     go true et true el =

@@ -43,7 +43,9 @@ two-long a b = go (isLeading a) refl
 three-long : (a b c : ℕ) → asPins (threeDigits a b c) ≡ Malformed
 three-long a b c = go (isLeading a) refl
   where
-    go : (l : Bool) → isLeading a ≡ l → asPins (cond (l && isDigit b && isDigit c) (Value (digitValue a * 100 + digitValue b * 10 + digitValue c)) Malformed) ≡ Malformed
+    go :
+        (l : Bool) → isLeading a ≡ l
+        → asPins (cond (l && isDigit b && isDigit c) (Value (digitValue a * 100 + digitValue b * 10 + digitValue c)) Malformed) ≡ Malformed
     go false e = refl
     go true e = let bounds = leading-bounds a e in long (isDigit b && isDigit c) _ (omega arith)
 

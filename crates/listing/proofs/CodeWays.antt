@@ -19,7 +19,8 @@ use Rattle.listing.proofs.Lines.{lineAt, listing-parts}
 -- ---- one line
 
 cell-fields :
-    (a b c d : List ℕ) → (a ++ (9 ∷ [])) ++ ((b ++ (9 ∷ [])) ++ ((c ++ (9 ∷ [])) ++ (d ++ (10 ∷ [])))) ≡ (a ++ 9 ∷ (b ++ 9 ∷ (c ++ 9 ∷ d))) ++ (10 ∷ [])
+    (a b c d : List ℕ)
+    → (a ++ (9 ∷ [])) ++ ((b ++ (9 ∷ [])) ++ ((c ++ (9 ∷ [])) ++ (d ++ (10 ∷ [])))) ≡ (a ++ 9 ∷ (b ++ 9 ∷ (c ++ 9 ∷ d))) ++ (10 ∷ [])
 cell-fields a b c d = simp append-assoc
 
 pub cell-wrote :

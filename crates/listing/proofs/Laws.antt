@@ -79,7 +79,8 @@ module _ (memory writers : List ℕ) where
         where
           go :
               (t : Bool)
-              → (let text : List ℕ = listingOf memory writers in cond t (output (Text (length text)) (sets out 0 text)) (output (Short (length text)) out) .answer)
+              → (let text : List ℕ = listingOf memory writers in
+              cond t (output (Text (length text)) (sets out 0 text)) (output (Short (length text)) out) .answer)
               ≡ Refused k → ⊥
           go true h = let z : _≡_ {A = ℕ} 0 1 = cc h in omega arith
           go false h = let z : _≡_ {A = ℕ} 0 1 = cc h in omega arith

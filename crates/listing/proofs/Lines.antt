@@ -26,7 +26,8 @@ module _ (memory writers : List ℕ) where
   cells-parts : (n k : ℕ) → partsFrom (lineAt memory writers) k n ≡ cellsText (cellsFrom memory writers k n)
   cells-parts zero k = refl
   cells-parts (suc n) k =
-      ap (λ (l : List ℕ). lineAt memory writers k ++ l) (cells-parts n (k + 1)) ∙ sym (cells-append (cellsAt memory writers k) (cellsFrom memory writers (k + 1) n))
+      ap (λ (l : List ℕ). lineAt memory writers k ++ l) (cells-parts n (k + 1))
+      ∙ sym (cells-append (cellsAt memory writers k) (cellsFrom memory writers (k + 1) n))
 
   pub listing-parts : header ++ partsFrom (lineAt memory writers) 0 places ≡ listingOf memory writers
   unfolding listingOf cellsOf

@@ -101,7 +101,9 @@ module _ (f : ℕ → List ℕ) (t k : ℕ) where
   pub parts-end : (l : List ℕ) (i : ℕ) → i ≤ top → t ≤ k → Wrote l i (partsFrom f k (t - k)) l i
   parts-end l i h e = let none : t - k ≡ 0 = omega arith in wrote-same (sym (ap (λ (n : ℕ). partsFrom f k n) none)) (wrote-none l i h)
 
-pub parts-bound : (f : ℕ → List ℕ) (b t : ℕ) → ((j : ℕ) → j < t → length (f j) ≤ b) → (n k : ℕ) → k + n ≤ t → length (partsFrom f k n) ≤ n * b
+pub parts-bound :
+    (f : ℕ → List ℕ) (b t : ℕ) → ((j : ℕ) → j < t → length (f j) ≤ b) → (n k : ℕ) → k + n ≤ t
+    → length (partsFrom f k n) ≤ n * b
 parts-bound f b t h zero k e = omega arith
 parts-bound f b t h (suc n) k e =
     omega (

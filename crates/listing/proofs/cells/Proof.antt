@@ -17,7 +17,8 @@ Inv-loop memory writers out₀ at₀ k₀ out at k =
     (k ≤ places)
     × (at ≤ top)
     × (length out ≡ length out₀)
-    × ((l : List ℕ) (j : ℕ) → Wrote out at (partsFrom (lineAt memory writers) k (places - k)) l j → Wrote out₀ at₀ (partsFrom (lineAt memory writers) 0 places) l j)
+    × ((l : List ℕ) (j : ℕ) → Wrote out at (partsFrom (lineAt memory writers) k (places - k)) l j
+    → Wrote out₀ at₀ (partsFrom (lineAt memory writers) 0 places) l j)
 
 abbrev μ-loop : tie.MeasureT-loop
 μ-loop memory writers out₀ at₀ k₀ out at k = places - k

@@ -39,7 +39,8 @@ unfolding meaning
 returns-2 c =
     let test = c .before .before .before in
     let args = test .before .before .before .before .before .args in
-    text-known _ _ (args .memory .now) (args .writers .now) (args .out .now) _ _ (c .before .end .given .1) (test .before .of-lengths .ensures) (test .if1 .left) (refl)
+    text-known _ _ (args .memory .now) (args .writers .now) (args .out .now) _ _ (c .before .end .given .1)
+    (test .before .of-lengths .ensures) (test .if1 .left) refl
 
 same-length : tie.Need-same-length
 same-length c = search needs

@@ -30,7 +30,8 @@ returns c =
     let third = c .before .before in
     let second = third .before .before .before .before .before in
     let first = second .before .before .before .before .before in
-    pixel-wrote (first .before .before .before .before .args .colour) (omega arith) (omega arith) (first .field .ensures) (second .field2 .ensures) (third .field3 .ensures)
+    pixel-wrote (first .before .before .before .before .args .colour) (omega arith) (omega arith) (first .field .ensures)
+    (second .field2 .ensures) (third .field3 .ensures)
 
 pub pixel-spec : {M : Type 1} → statement M
 pixel-spec =

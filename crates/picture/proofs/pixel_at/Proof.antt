@@ -17,8 +17,11 @@ same-length c = search needs
 
 returns : tie.Need-returns
 returns c =
-    let start = c .before .before .before .before .before .before .before .before in
-    pixel-shown (start .args .chip) _ _ _ _ (c .before .before .before .before .before .glass .ensures) (c .before .before .before .before .colour-of .ensures) (c .before .before .pixel .ensures)
+    let pixel = c .before .before in
+    let colour = pixel .before .before in
+    let glass = colour .before in
+    let start = glass .before .before .before in
+    pixel-shown (start .args .chip) _ _ _ _ (glass .glass .ensures) (colour .colour-of .ensures) (pixel .pixel .ensures)
 
 pub pixel-at-spec : {M : Type 1} → statement M
 pixel-at-spec =

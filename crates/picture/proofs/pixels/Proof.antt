@@ -16,7 +16,8 @@ Inv-loop chip memory out₀ at₀ k₀ out at k =
     (k ≤ pixelCount)
     × (at ≤ top)
     × (length out ≡ length out₀)
-    × ((l : List ℕ) (j : ℕ) → Wrote out at (partsFrom (pixelAt chip memory) k (pixelCount - k)) l j → Wrote out₀ at₀ (partsFrom (pixelAt chip memory) 0 pixelCount) l j)
+    × ((l : List ℕ) (j : ℕ) → Wrote out at (partsFrom (pixelAt chip memory) k (pixelCount - k)) l j
+    → Wrote out₀ at₀ (partsFrom (pixelAt chip memory) 0 pixelCount) l j)
 
 abbrev μ-loop : tie.MeasureT-loop
 μ-loop chip memory out₀ at₀ k₀ out at k = pixelCount - k
