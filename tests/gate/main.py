@@ -1,7 +1,8 @@
 """Holds .ci/edits.py, which judges why must-fail edits were refused, against sample logs of a small crate.
 
-Run from the project's root. The crate is made below target/tests/gate; a log is in the prover's words.
+Run from the project's root. The crate is made where tests/run builds; a log is in the prover's words.
 """
+import os
 import pathlib
 import shutil
 import sys
@@ -9,7 +10,7 @@ import sys
 sys.path.insert(0, ".ci")
 import edits
 
-CRATE = pathlib.Path("target/tests/gate").absolute()
+CRATE = pathlib.Path(os.environ.get("TESTS_OUT") or "target/tests", "gate").absolute()
 FILES = {
     "src/lib.rt": """\
 const MOST: u8 = 100;

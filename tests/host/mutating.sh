@@ -10,7 +10,7 @@
 #   all_found              prints how many there were
 
 cc=${CC:-gcc}
-out=target/tests/mutants/$tests
+out=${TESTS_OUT:-target/tests}/mutants/$tests
 flags='-std=c11 -Iinclude -Itests/model -Itests/host'
 parts='model glass list plain compile'
 mutants=0

@@ -5,7 +5,7 @@
 set -eu
 
 cc=${CC:-gcc}
-out=target/tests/mutants/programs
+out=${TESTS_OUT:-target/tests}/mutants/programs
 flags='-std=c11 -Itests/model -O1 -w'
 mutants=0
 
