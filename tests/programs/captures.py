@@ -165,5 +165,6 @@ def damaged_captures(sides):
         sides.same(BOTH[i % 8 == 0], texts.damaged(source, texts.random_capture(source)))
 
 
-THEMES = [known, pins, event_lines, event_numbers, many_writes, random_captures, damaged_captures,
-          long_captures, pieces, every_cut]
+# Those that find an error with few comparisons come first.
+THEMES = [known, many_writes, pins, long_captures, event_lines, event_numbers, random_captures,
+          damaged_captures, pieces, every_cut]

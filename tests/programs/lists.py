@@ -123,5 +123,6 @@ def damaged_lists(sides):
         drawn(sides, text, PINS[i % 4])
 
 
-THEMES = [empty_lists, bad_lines, fields, cells, counts_of_lines, sizes, random_lists, damaged_lists,
-          whole_glass]
+# Those that find an error with few comparisons come first.
+THEMES = [empty_lists, sizes, whole_glass, cells, fields, bad_lines, counts_of_lines, random_lists,
+          damaged_lists]

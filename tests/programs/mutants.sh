@@ -2,11 +2,18 @@
 # Can the tests of the programs fail? They are held against the model's own programs: as they are, when
 # they must pass, and with one error put into a copy of a source at a time, when they must not. Run from
 # the project's root.
+#
+# The errors stand in tests/programs/errors.sh. As many are tried at a time as there are cores.
 set -eu
 
 cc=${CC:-gcc}
 out=${TESTS_OUT:-target/tests}/mutants/programs
 flags='-std=c11 -Itests/model -O1 -w'
+programs='replay view draw'
+
+# What the list of errors sets, and how many errors of it were met.
+model=
+groups=
 mutants=0
 
 stop() {
@@ -23,12 +30,12 @@ parts() {
     esac
 }
 
-# link_program PROGRAM DIRECTORY CHANGED: the part that is changed is the mutant's, none if it is no part.
+# link_program PROGRAM DIRECTORY CHANGED: the part that is changed is the directory's own, none if it is no part.
 link_program() {
     objects=
     for part in $(parts "$1"); do
         if [ "$part" = "$3" ]; then
-            objects="$objects $out/mutant.o"
+            objects="$objects $2/$part.o"
         else
             objects="$objects $out/objects/$part.o"
         fi
@@ -46,154 +53,80 @@ holds() {
 
 build_model() {
     rm -rf "$out"
-    mkdir -p "$out/objects" "$out/model" "$out/mutant"
+    mkdir -p "$out/objects" "$out/model" "$out/tried"
     for part in replay view draw capture program compile plain list model glass; do
         # shellcheck disable=SC2086
         "$cc" $flags -c "tests/model/$part.c" -o "$out/objects/$part.o"
     done
-    for program in replay view draw; do
+    for program in $programs; do
         link_program "$program" "$out/model" none
+    done
+}
+
+# taken NUMBER: whether this worker is the first one to come here. Its directory is `own` then.
+taken() {
+    own=$out/tried/$1
+    mkdir "$own" 2>/dev/null
+}
+
+unchanged() {
+    taken 0 || return 0
+    holds "$out/model" >"$own/found" || stop "the tests fail on the unchanged programs"
+}
+
+# The programs with the changed part; those that do not have it are the model's.
+build_mutant() {
+    # shellcheck disable=SC2086
+    "$cc" $flags -c "$own/$model.c" -o "$own/$model.o" || stop "$1: the changed source does not compile"
+    for program in $programs; do
+        case " $(parts "$program") " in
+        *" $model "*) link_program "$program" "$own" "$model" ;;
+        *) ln "$out/model/$program" "$own/$program" ;;
+        esac
     done
 }
 
 # mutant NAME EDIT: the source `model`, changed by this sed script, must be found out by `groups`.
 mutant() {
-    sed "$2" "tests/model/$model.c" >"$out/mutant.c"
-    if cmp -s "tests/model/$model.c" "$out/mutant.c"; then
+    mutants=$((mutants + 1))
+    taken "$mutants" || return 0
+    sed "$2" "tests/model/$model.c" >"$own/$model.c"
+    if cmp -s "tests/model/$model.c" "$own/$model.c"; then
         stop "$1: the edit finds nothing to change in $model.c"
     fi
-    # shellcheck disable=SC2086
-    "$cc" $flags -c "$out/mutant.c" -o "$out/mutant.o" || stop "$1: the changed source does not compile"
-    for program in replay view draw; do
-        link_program "$program" "$out/mutant" "$model"
-    done
+    build_mutant "$1"
     status=0
     # shellcheck disable=SC2086
-    holds "$out/mutant" $groups >"$out/log" 2>&1 || status=$?
-    if [ "$status" -ne 1 ] || ! grep -q '^programs: DIFFERENT' "$out/log"; then
-        cat "$out/log" >&2
+    holds "$own" $groups >"$own/log" 2>&1 || status=$?
+    if [ "$status" -ne 1 ] || ! grep -q '^programs: DIFFERENT' "$own/log" || grep -q 'no end after' "$own/log"; then
+        cat "$own/log" >&2
         stop "$1: NOT found by the tests of the programs (exit $status)"
     fi
-    echo "found: $1 ($(sed -n '1s/^programs: DIFFERENT, //p' "$out/log"))"
-    mutants=$((mutants + 1))
+    echo "found: $1 ($(sed -n '1s/^programs: DIFFERENT, //p' "$own/log"))" >"$own/found"
+}
+
+# Each worker goes through the whole list and tries what no other has begun.
+work() {
+    unchanged
+    # shellcheck source=tests/programs/errors.sh
+    . tests/programs/errors.sh
+    echo "$mutants" >"$out/mutants"
 }
 
 build_model
-holds "$out/model" || stop "the tests fail on the unchanged programs"
+workers=
+for _ in $(seq "$(nproc)"); do
+    work &
+    workers="$workers $!"
+done
+good=yes
+for worker in $workers; do
+    wait "$worker" || good=no
+done
+[ "$good" = yes ] || exit 1
 
-groups=captures
-model=replay
-mutant 'cells by column, then bank' \
-    's/bank = 0; bank < BANKS; bank++/column = 0; column < COLUMNS; column++/; t; s/column = 0; column < COLUMNS; column++/bank = 0; bank < BANKS; bank++/'
-mutant 'banks from the last' 's/COLUMNS \* bank + column/COLUMNS * (16 - bank) + column/; s/column, bank,/column, 16 - bank,/'
-mutant 'column and bank exchanged' 's/column, bank,/bank, column,/'
-mutant 'byte and event exchanged' \
-    's/%u.t%u.t%u.t%" PRIu64 ".n", column/%u\\t%u\\t%" PRIu64 "\\t%u\\n", column/; s/played->memory\[place\],/played->writers[place],/; s/^ *played->writers\[place\]);/played->memory[place]);/'
-mutant 'cells that are 0 left out' 's/played->writers\[place\] != 0/played->memory[place] != 0/'
-mutant 'cells without a writer listed' 's/played->writers\[place\] != 0/1/'
-mutant 'bank 16 left out' 's/bank < BANKS/bank < BANKS - 1/'
-mutant 'column 100 left out' 's/column < COLUMNS/column < COLUMNS - 1/'
-mutant 'events counted from 0' 's/played->writers\[place\]);/played->writers[place] - 1);/'
-mutant 'event numbers of 8 bits' 's/played->writers\[place\]);/(uint64_t)(uint8_t)played->writers[place]);/'
-mutant 'no header' 's/printf("column.*/(void)0;/'
-mutant 'no header without cells' 's/printf("column/if (played->record[COUNT]) &/'
-mutant 'blanks for tabs' 's/column.tbank/column bank/'
-mutant 'last newline left out' 's/%" PRIu64 ".n", column/%" PRIu64, column/'
-mutant 'header before a refusal' 's/printf("refused/printf("column\\n"), &/'
-mutant 'cells before a refusal' 's/printf("refused/print_cells(\&played), &/'
-mutant 'refusal without its line' 's/refused.t%" PRIu64 ".n", bad_line/refused\\n"/'
-
-model=capture
-mutant 'lines counted from 0' 's/return lines + 1;/return lines;/'
-mutant 'line after the bad one' 's/return lines + 1;/return lines + 2;/'
-mutant 'bad first line given as line 2' 's/^        return lines;/        return lines + 1;/'
-mutant 'line numbers of 16 bits' 's/return lines + 1;/return (uint16_t)(lines + 1);/'
-mutant 'events counted and not lines' 's/uint64_t lines = 1;/uint64_t lines = 0;/; s/return lines;/return 1;/'
-mutant 'bad line hides an earlier event' \
-    's/^        lines += done;/if (stopped == BAD_LINE) return lines + count + 1; &/'
-mutant 'leading zero taken' 's/number == 0 ? 1 : 3/3/'
-mutant 'several zeros taken' \
-    "s/^    int most_digits/    while (number == 0 \&\& reader->buffer[reader->at] == '0') reader->at++; &/"
-mutant 'four digits cut to three' \
-    's/number == 0 ? 1 : 3/number == 0 ? 1 : 4/; s/number = \(10 .*\);/number = (\1) % 1000;/'
-mutant 'last line taken without its newline' \
-    "s/next_byte(reader) == '.n' ? number : BAD_LINE/(byte = next_byte(reader)) == 10 || byte == EOF ? number : BAD_LINE/; s/if (byte == '.n')/if (byte == 10 || byte == EOF)/"
-mutant 'last line passed over without its newline' \
-    "s/next_byte(reader) == '.n' ? number : BAD_LINE/(byte = next_byte(reader)) == 10 ? number : byte == EOF ? NO_LINE : BAD_LINE/; s/if (!is_digit(byte))/if (byte == EOF) return NO_LINE; &/"
-mutant 'carriage return taken' \
-    "s/return next_byte(reader) == '.n' ? number/byte = next_byte(reader); if (byte == 13) byte = next_byte(reader); return byte == 10 ? number/"
-mutant 'blank at the end taken' \
-    "s/return next_byte(reader) == '.n' ? number/byte = next_byte(reader); if (byte == 32) byte = next_byte(reader); return byte == 10 ? number/"
-mutant 'empty line passed over' \
-    "s/^    return byte == EOF ? NO_LINE/    while (byte == '\\\\n') byte = next_byte(reader); &/"
-mutant 'colon taken for a digit' "s/byte <= '9'/byte <= ':'/"
-mutant 'end at a zero byte' 's/^    return byte == EOF ? NO_LINE/    if (byte == 0) return NO_LINE; &/'
-mutant 'events that are none passed over' 's/if (refusal != 0 || stopped == BAD_LINE)/if (refusal == 3) { refusal = 0; lines++; } &/'
-mutant 'empty capture taken' \
-    's/^        return lines;/        return reader.length == 0 ? 0 : lines;/'
-mutant 'pins 4 taken as 0' 's/return number_from(reader, next_byte(reader));/{ unsigned n = number_from(reader, next_byte(reader)); return n == 4 ? 0 : n; }/'
-mutant 'pins ignored' 's/return number_from(reader, next_byte(reader));/return number_from(reader, next_byte(reader)) < 4 ? 0 : BAD_LINE;/'
-mutant 'pins line not asked for' 's/pins_line(&reader)) != 0/pins_line(\&reader)) != 0 \&\& false/'
-mutant 'word of the pins line not looked at' "s/next_byte(reader) != \*word/next_byte(reader) == 10/"
-mutant 'memory not cleared' 's/memset(played, 0, sizeof \*played);/memset(played, 1, sizeof *played);/'
-mutant 'last event lost' \
-    's/events, count, &done/events, stopped == NO_LINE \&\& count > 0 ? count - 1 : count, \&done/'
-mutant 'first buffer only' 's/^        if (reader->length == 0)/static int reads; if (reader->length == 0 || reads++)/'
-mutant 'a byte lost between buffers' 's/^        reader->at = 0;/static int reads; reader->at = reads++ > 0 \&\& reader->length > 1;/'
-mutant 'short read taken for the end' \
-    's/^        reader->length = fread.*/static bool short_read; reader->length = short_read ? 0 : read(fileno(reader->file), reader->buffer, BUFFER); short_read = reader->length < BUFFER;/'
-
-model=view
-mutant 'mirrored' 's/PLACES, row, column)/PLACES, row, COLUMNS - 1 - column)/'
-mutant 'upside down' 's/PLACES, row, column)/PLACES, ROWS - 1 - row, column)/'
-mutant 'column by column' \
-    's/row = 0; row < ROWS; row++/column = 0; column < COLUMNS; column++/; t; s/column = 0; column < COLUMNS; column++/row = 0; row < ROWS; row++/'
-mutant 'width and height exchanged' 's/COLUMNS, ROWS);/ROWS, COLUMNS);/'
-mutant 'greys inverted' 's/(64 - (unsigned)(shown - LEVEL))/(1 + (unsigned)(shown - LEVEL))/'
-mutant 'greys of 63 steps' 's/(64 - \(.*\)) \/ 64/(63 - \1) \/ 63/'
-mutant 'greys rounded up' 's/ \/ 64;/ \/ 64 + 1 - (shown == LEVEL);/'
-mutant 'dark pixels black' 's/0 0 96/0 0 0/'
-mutant 'undriven pixels dark' 's/96 64 0/0 0 96/'
-mutant 'one value a pixel' 's/P3/P2/; s/"%u %u %u.n", grey, grey, grey/"%u\\n", grey/'
-mutant 'several pixels a line' 's/%u %u %u.n/%u %u %u /'
-mutant 'refused capture shown' 's/printf("refused.*/print_glass(\&played);/'
-
-groups=lists
-model=draw
-mutant 'no pins line' 's/printf("pins.*/(void)0;/'
-mutant 'pins always 0' 's/print_capture(pins,/print_capture(0,/'
-mutant 'compiled for pins 0' 's/model_reset(record, WORDS, pins)/model_reset(record, WORDS, 0)/'
-mutant 'last event left out' 's/i < length;/i + 1 < length;/'
-mutant 'last newline left out' 's/"%u.n", events\[i\]/i + 1 < length ? "%u\\n" : "%u", events[i]/'
-mutant 'events in hex' 's/"%u.n", events/"%x\\n", events/'
-mutant 'lengths of 16 bits' 's/print_capture(pins, events, length)/print_capture(pins, events, (uint16_t)length)/'
-mutant 'refusal without its line' 's/.t%" PRIu64 ".n", refusal, line/\\n", refusal/'
-mutant 'refusal without its number' 's/refused.t%" PRIu64 ".t%" PRIu64 ".n", refusal, line/refused\\t%" PRIu64 "\\n", line/'
-mutant 'pins line before a refusal' 's/printf("refused/printf("pins\\t%" PRIu64 "\\n", pins), &/'
-mutant 'empty list refused' 's/if (refusal != 0 \&\& refusal != TOO_SHORT)/if (refusal != TOO_SHORT)/'
-mutant 'long list cut' 's/^    if (length > MOST_TEXT)/    if (length > MOST_TEXT) length = MOST_TEXT; &/'
-mutant 'list of 1,048,576 bytes refused' 's/if (length > MOST_TEXT)/if (length >= MOST_TEXT)/'
-mutant 'list of 1,048,577 bytes taken' 's/MOST_TEXT = 1 << 20/MOST_TEXT = (1 << 20) + 1/'
-mutant 'newline added to the last line' 's/^    return length;/    if (length > 0 \&\& text[length - 1] != 10) text[length++] = 10; return length;/'
-
-groups=arguments
-mutant 'pins 4 taken' "s/word\[0\] > '3'/word[0] > '4'/"
-mutant 'pins 00 taken' "s/strlen(word) != 1/strlen(word) > 2/"
-mutant 'pins not looked at' "s/if (strlen(word) != 1 .*/if (0)/"
-mutant 'words behind the list passed over' 's/argc < 2 || argc > 3/argc < 2/'
-
-model=replay
-mutant 'words behind the capture passed over' 's/if (argc > 2)/if (0)/'
-mutant 'file not read' 's/argc == 2 ? argv\[1\] : NULL/NULL/'
-mutant 'directory taken for an empty capture' 's/^    check_input.*//'
-
-model=program
-mutant 'message on standard output' 's/fprintf(stderr, "%s: ", program)/printf("%s: failed\\n", program)/'
-mutant 'status 0 for a wrong call' 's/exit(1)/exit(0)/'
-mutant 'crash at a wrong call' 's/exit(1)/abort()/'
-mutant 'no message' 's/fprintf(stderr/snprintf(NULL, 0/; s/vfprintf(stderr/vsnprintf(NULL, 0/; s/fprintf(stderr, ".n")/(void)0/'
-mutant 'two lines of message' 's/fprintf(stderr, ".n")/fprintf(stderr, "\\n\\n")/'
-mutant 'standard input for a missing file' 's/^    if (file == NULL)/    if (file == NULL) return stdin; &/'
-mutant 'standard input for -' 's/if (path == NULL)/if (path == NULL || strcmp(path, "-") == 0)/'
-
+read -r mutants <"$out/mutants"
+for number in $(seq 0 "$mutants"); do
+    cat "$out/tried/$number/found"
+done
 echo "mutants: $mutants errors put into the model's programs, all found"
