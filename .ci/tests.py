@@ -1,17 +1,20 @@
-"""Runs the parts of the tests against the independent model, and the example, as many at a time as there are cores.
+"""Builds the archive for C, runs the parts of the tests against the independent model, and the example, as many at a
+time as there are cores.
 
-What they print stays in order. The first part that fails ends the others, and its output alone is printed.
+What they print stays in order. A part that fails ends the others, and its output alone is printed.
 """
 import concurrent.futures
+import contextlib
 import os
 import signal
 import subprocess
 import sys
 import time
 
-# The longest first, so that the others run beside it.
-PARTS = ["tests/run mutants", "tests/run programs", "tests/run host", "tests/run compile", "tests/run samples",
-         "tests/run model", "tests/run glass", "tests/run worked", "tests/run gate", "examples/run"]
+# What takes long comes first, so that the others run beside it.
+ARCHIVE = "rt staticlib host"
+PARTS = ["tests/run programs", "tests/run model", "tests/run worked", "tests/run gate"]
+PARTS_OF_ARCHIVE = ["tests/run host", "tests/run compile", "tests/run samples", "tests/run glass", "examples/run"]
 running = set()
 
 
@@ -28,15 +31,23 @@ def run(part):
     return f"{printed}gate: {part} passed ({time.monotonic() - began:.0f} s)"
 
 
+def run_after(archive, part):
+    archive.result()
+    return run(part)
+
+
 def end_others():
     for process in list(running):
-        os.killpg(process.pid, signal.SIGTERM)
+        with contextlib.suppress(ProcessLookupError):
+            os.killpg(process.pid, signal.SIGTERM)
 
 
 pool = concurrent.futures.ThreadPoolExecutor(len(os.sched_getaffinity(0)))
-parts = [pool.submit(run, part) for part in PARTS]
+archive = pool.submit(run, ARCHIVE)
+parts = [archive] + [pool.submit(run, part) for part in PARTS]
+parts += [pool.submit(run_after, archive, part) for part in PARTS_OF_ARCHIVE]
 done, _ = concurrent.futures.wait(parts, return_when=concurrent.futures.FIRST_EXCEPTION)
-failed = [part.exception() for part in done if part.exception()]
+failed = [part.exception() for part in parts if part in done and part.exception()]
 if failed:
     pool.shutdown(wait=False, cancel_futures=True)
     end_others()

@@ -2,6 +2,7 @@
 
 A line of the log is the seconds since the gate began, a tab, and what was printed then. Checks run beside each other,
 so the sum of their seconds is more than the seconds on the clock. A crate's clock seconds are its share, by the sums.
+The tests of the tests run beside the proofs; of them the clock has what was waited for at the end.
 """
 import re
 import sys
@@ -10,8 +11,8 @@ PARTS = {
     "proofs": re.compile(r"rt: (\w+) proved \((\d+) s\)"),
     "edits": re.compile(r"rt: must-fail (\w+)/\w+: refused, as it must be \(.*?(\d+) s\)"),
     "programs": re.compile(r"rt: (\w+) ran.* \((\d+) s\)"),
-    "archive": None,
     "tests": re.compile(r"gate: (.+) passed \((\d+) s\)"),
+    "mutants": None,
     "checks": None,
 }
 ENDED = re.compile(r"gate: (\w+) ended")

@@ -66,7 +66,8 @@ mutant() {
     as_library "$out/mutant.c" "$out/mutant.o" || stop "$1: the changed model does not compile"
     link_tests "$model"
     status=0
-    timeout 120 "$out/host" quick >"$out/log" 2>&1 || status=$?
+    # The limit is of the processor's time: beside other work the clock says nothing.
+    (ulimit -t 120 && exec "$out/host" quick) >"$out/log" 2>&1 || status=$?
     if [ "$status" -ne 1 ]; then
         cat "$out/log" >&2
         stop "$1: NOT found by the host tests (exit $status)"
