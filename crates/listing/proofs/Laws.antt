@@ -1,19 +1,18 @@
 -- What is promised of the listing, in one place: read this file first. The work stands in the files beside it.
-use mathlib.Core.Bool.{Bool, true, false, cond}
-use mathlib.Core.Path.{_≡_, refl, sym, ap, subst, _∙_}
+use mathlib.Core.Path.{_≡_, refl, ap, _∙_}
 use mathlib.Core.List.{List, [], _∷_, _++_, List·Memᴰ}
-use mathlib.Core.Logic.{_↔_, ⊎-elim}
+use mathlib.Core.Logic.{_↔_}
 use Prim.Native.Nat.{ℕ, _+_, _*_}
 use native.Mathlib.Omega.{arith}
-use lib.Dec.{leb}
 use lib.ListN.{getD, length}
-use lib.Seq.{sets}
 use Rattle.registers.specs.Refusals.{lengthsRefusal}
 use Rattle.registers.specs.State.{State, state, places}
 use Rattle.text.specs.Text.{bytes}
-use Rattle.print.specs.declared.Written.the-variants.{Text, Short, Refused}
-use Rattle.print.specs.Printed.{decimalOf, output, wholeText, NumberSays}
-use Rattle.print.proofs.Laws.{number-says}
+use Rattle.print.specs.declared.Written.the-variants.{Refused}
+use Rattle.print.specs.Chosen.{chosenFrom, InOrder}
+use Rattle.print.specs.Printed.{decimalOf, wholeText, NumberSays}
+use Rattle.print.proofs.Chosen.{so-not-same, so-same, chosen-exactly, one-chosen, chosen-in-order}
+use Rattle.print.proofs.Laws.{number-says, refused-by-1}
 use Rattle.chip.specs.Promised.{Fit}
 use Rattle.capture.specs.declared.End.{End}
 use Rattle.capture.specs.declared.End.the-variants as ends
@@ -24,66 +23,46 @@ use Rattle.capture.specs.Where.{Lent, Replayed}
 use Rattle.capture.proofs.Laws.{is-replayed, end-fit}
 use Rattle.capture.proofs.Refusals.{by-lent, lent-passes, not-lent}
 use Rattle.listing.specs.LastWriters.{NamesLastWriter, ListsLastWriters}
-use Rattle.listing.specs.Listing.{Cell, cell, cellsFrom, cellsOf, header, cellsText, listingOf, refusedOf, listingNumber, listingCall, refusedCall}
-use Rattle.listing.specs.Order.{WrittenCell, InOrder}
-use Rattle.listing.specs.ReplayText.{textOfReplay, textUnless, replayTextCall}
+use Rattle.listing.specs.Listing.{Cell, cell, cellAt, isWritten, cellsOf, header, cellsText, listingOf, refusedOf, listingNumber, listingCall}
+use Rattle.listing.specs.Order.{WrittenCell, Before}
+use Rattle.listing.specs.ReplayText.{refusedCall, textOfReplay, textUnless, replayTextCall}
 use Rattle.listing.proofs.LastWriters.{named, listed}
-use Rattle.listing.proofs.WrittenCells.{in-cells, cells-have, only-one, in-order, from-written, written-cell-is}
+use Rattle.listing.proofs.CodeWays.{refused-by-memories}
+use Rattle.listing.proofs.WrittenCells.{place-order, from-chosen, so-chosen}
 -- how long the two texts are at most
 pub use Rattle.listing.proofs.Lines.{listing-bound, refused-bound}
 
--- what the end says of the memories
-memories : (e : End) (m w : List ℕ) (end : State) → meaning e m w ≡ replayed end → (m ≡ end .memory) × (w ≡ end .writers)
+-- the memories of an end that is a replay's are the replay's
+pub memories-of : (e : End) (m w : List ℕ) (end : State) → meaning e m w ≡ replayed end → (m ≡ end .memory) × (w ≡ end .writers)
 unfolding meaning
-memories (ends.Refused k) m w end q = absurd (let z : _≡_ {A = ℕ} 0 1 = cc q in omega arith)
-memories ends.BadFirst m w end q = absurd (let z : _≡_ {A = ℕ} 0 1 = cc q in omega arith)
-memories (ends.Bad c) m w end q = absurd (let z : _≡_ {A = ℕ} 0 1 = cc q in omega arith)
-memories (ends.Whole c) m w end q =
+memories-of (ends.Refused k) m w end q = absurd (let z : _≡_ {A = ℕ} 0 1 = cc q in omega arith)
+memories-of ends.BadFirst m w end q = absurd (let z : _≡_ {A = ℕ} 0 1 = cc q in omega arith)
+memories-of (ends.Bad c) m w end q = absurd (let z : _≡_ {A = ℕ} 0 1 = cc q in omega arith)
+memories-of (ends.Whole c) m w end q =
     let same : state c m w ≡ end = cc q in
     (ap (λ (s : State). s .memory) same, ap (λ (s : State). s .writers) same)
 
 module _ (memory writers : List ℕ) where
   -- by bank, then column, and no cell twice
-  pub cells-in-order : InOrder (cellsOf memory writers)
+  pub cells-in-order : InOrder Before (cellsOf memory writers)
   unfolding cellsOf
-  cells-in-order = in-order memory writers places 0
+  cells-in-order = chosen-in-order (isWritten writers) (cellAt memory writers) Before place-order places 0
 
   -- a cell is there exactly if it is that of a cell with a writer
   pub cells-exactly : (r : Cell) → List·Memᴰ r (cellsOf memory writers) ↔ WrittenCell memory writers r
   unfolding cellsOf
   cells-exactly r = go places refl
     where
-      go : (n : ℕ) → n ≡ 1717 → List·Memᴰ r (cellsFrom memory writers 0 n) ↔ WrittenCell memory writers r
-      go n e = (
-        λ m. from-written memory writers (0 + n) r (omega arith) (in-cells memory writers n 0 r m),
-        λ h. subst (λ (q : Cell). List·Memᴰ q (cellsFrom memory writers 0 n)) (written-cell-is memory writers r h)
-            (cells-have memory writers n 0 (101 * r .bank + r .column) (omega arith) (omega (arith, h .column-there, h .bank-there))
-            (λ z. h .written (sym (h .writer) ∙ z))),
-      )
+      go : (n : ℕ) → n ≡ 1717 → List·Memᴰ r (chosenFrom (isWritten writers) (cellAt memory writers) 0 n) ↔ WrittenCell memory writers r
+      go n e =
+          let chosen = chosen-exactly (isWritten writers) (cellAt memory writers) n r in
+          (λ m. from-chosen memory writers n r e (chosen .0 m), λ h. chosen .1 (so-chosen memory writers n r e h))
 
   -- it is refused exactly where a memory has another length, and then by 1
   pub listing-refused-exactly : (k : ℕ) (out : List ℕ) → (listingCall memory writers out .answer ≡ Refused k) ↔ ((k ≡ 1) × (Lent memory writers → ⊥))
-  unfolding wholeText
-  listing-refused-exactly k out = (⊎-elim right wrong (by-lent memory writers), λ h. rw (not-lent memory writers (h .1), h .0))
-    where
-      wrong : (Lent memory writers → ⊥) → listingCall memory writers out .answer ≡ Refused k → (k ≡ 1) × (Lent memory writers → ⊥)
-      wrong n e =
-          let refused : listingCall memory writers out .answer ≡ Refused 1 = rw (not-lent memory writers n) in
-          (cc refused, n)
-
-      right : Lent memory writers → listingCall memory writers out .answer ≡ Refused k → (k ≡ 1) × (Lent memory writers → ⊥)
-      right lent e =
-          let passed : wholeText 0 (listingOf memory writers) out .answer ≡ Refused k =
-          sym (ap (λ (n : ℕ). wholeText n (listingOf memory writers) out .answer) (lent-passes memory writers lent)) ∙ e in
-          absurd (go (leb (length (listingOf memory writers)) (length out)) passed)
-        where
-          go :
-              (t : Bool)
-              → (let text : List ℕ = listingOf memory writers in
-              cond t (output (Text (length text)) (sets out 0 text)) (output (Short (length text)) out) .answer)
-              ≡ Refused k → ⊥
-          go true h = let z : _≡_ {A = ℕ} 0 1 = cc h in omega arith
-          go false h = let z : _≡_ {A = ℕ} 0 1 = cc h in omega arith
+  listing-refused-exactly k out =
+      refused-by-1 (Lent memory writers) (lengthsRefusal (length memory) (length writers)) (by-lent memory writers) (lent-passes memory writers)
+      (not-lent memory writers) (listingOf memory writers) out k
 
   -- the number of its answer: 1 where a memory has another length; else 10 exactly where the output is shorter than the listing, 0 exactly where the
   -- listing was written
@@ -97,9 +76,12 @@ module _ (memory writers : List ℕ) where
     λ n. rw (not-lent memory writers n),
   )
 
--- and so that of the line of a capture that is bad, which nothing refuses
-pub refused-number-exactly : (n : ℕ) (out : List ℕ) → NumberSays listingNumber 10 (refusedOf n) out (refusedCall n out)
-refused-number-exactly n out = number-says 10 (λ z. omega arith) (refusedOf n) out
+-- and so that of the line of a capture that is refused at a line, which nothing else refuses
+pub refused-number-exactly :
+    (file : List ℕ) (e : End) (n : ℕ) (s : State) (out : List ℕ) → meaning e [] [] ≡ refusedAt n s
+    → NumberSays listingNumber 10 (refusedOf file n) out (refusedCall file e out)
+unfolding refusedCall
+refused-number-exactly file e n s out same = rw same (number-says 10 (λ z. omega arith) (refusedOf file n) out)
 
 -- the listing that document 01 gives whole: of all cells only that in column 5 of bank 2 has a writer, event 10, and its byte is 167
 pub marked-listing :
@@ -109,8 +91,11 @@ pub marked-listing :
 unfolding listingOf cellsOf decimalOf
 marked-listing memory writers byte writer others = ap (λ (rs : List Cell). header ++ cellsText rs) (go places refl)
   where
-    go : (n : ℕ) → n ≡ 1717 → cellsFrom memory writers 0 n ≡ cell 5 2 167 10 ∷ []
-    go n e = only-one memory writers n 0 207 (omega arith) (omega arith) (λ z. omega arith) others ∙ rw (byte, writer)
+    go : (n : ℕ) → n ≡ 1717 → chosenFrom (isWritten writers) (cellAt memory writers) 0 n ≡ cell 5 2 167 10 ∷ []
+    go n e =
+        one-chosen (isWritten writers) (cellAt memory writers) n 0 207 (omega arith) (omega arith) (so-not-same (getD writers 207 0) 0 (λ z. omega (arith, writer)))
+        (λ q away. so-same (getD writers q 0) 0 (others q away))
+        ∙ rw (byte, writer)
 
 -- ---- what the listing of a replay says of its capture: which event wrote this cell?
 
@@ -139,16 +124,13 @@ pub replay-prints :
     → (replayTextCall e m w out ≡ wholeText 0 (listingOf (end .memory) (end .writers)) out)
     × ListsLastWriters (is-replayed text zeros zeros end .0 h .pins) (is-replayed text zeros zeros end .0 h .events) (listingOf (end .memory) (end .writers))
 unfolding replayTextCall
-replay-prints text m w out e end same h = (go (meaning-of e (same ∙ h)), listing-lists text end r)
+replay-prints text m w out e end same h = (go (memories-of e m w end (same ∙ h)), listing-lists text end r)
   where
     r : Replayed text zeros zeros end
     r = is-replayed text zeros zeros end .0 h
 
     fit : Fit end
     fit = end-fit text zeros zeros end r
-
-    meaning-of : (e : End) → meaning e m w ≡ replayed end → (m ≡ end .memory) × (w ≡ end .writers)
-    meaning-of e q = memories e m w end q
 
     go :
         (m ≡ end .memory) × (w ≡ end .writers)
@@ -160,6 +142,11 @@ replay-prints text m w out e end same h = (go (meaning-of e (same ∙ h)), listi
 
 -- what is printed of one that is refused at a line: that line alone
 pub refusal-prints :
-    (m w out : List ℕ) (e : End) (n : ℕ) (s : State) → Lent m w → meaning e m w ≡ refusedAt n s → replayTextCall e m w out ≡ wholeText 0 (refusedOf n) out
+    (m w out : List ℕ) (e : End) (n : ℕ) (s : State) → Lent m w → meaning e m w ≡ refusedAt n s → replayTextCall e m w out ≡ wholeText 0 (refusedOf [] n) out
 unfolding replayTextCall
 refusal-prints m w out e n s lent same = rw (lent-passes m w lent, same)
+
+-- and of a program that tells its file first, that line with the file in front, whatever the memories
+pub refusal-of-a-file :
+    (file m w out : List ℕ) (e : End) (n : ℕ) (s : State) → meaning e m w ≡ refusedAt n s → refusedCall file e out ≡ wholeText 0 (refusedOf file n) out
+refusal-of-a-file file m w out e n s same = refused-by-memories file e m w out ∙ rw same

@@ -1,37 +1,21 @@
--- The lines of the listing, place by place, and how long the text is at most.
-use mathlib.Core.Path.{_≡_, refl, sym, ap, _∙_}
+-- The lines of the listing, place by place, and how long the texts are at most.
+use mathlib.Core.Path.{_≡_, refl, ap}
 use mathlib.Core.Bool.{Bool, true, false, cond}
-use mathlib.Core.List.{List, [], _∷_, _++_, append-assoc, append-nil}
-use Prim.Native.Nat.{ℕ, zero, suc, _+_, _/_, _%_, _^_, _≤_, _<_}
+use mathlib.Core.List.{List, [], _∷_, _++_, append-nil}
+use Prim.Native.Nat.{ℕ, _+_, _/_, _%_, _^_, _≤_, _<_}
 use native.Mathlib.Omega.{arith}
-use lib.Dec.{eqb}
 use lib.ListN.{length, getD, length-append}
 use Rattle.registers.specs.State.{places}
 use Rattle.print.specs.Printed.{decimalOf, partsFrom}
+use Rattle.print.proofs.Chosen.{chosen-parts}
 use Rattle.print.proofs.Digits.{decimal-bound}
 use Rattle.print.proofs.Writing.{parts-bound}
-use Rattle.listing.specs.Listing.{Cell, cell, cellsAt, cellsFrom, cellsOf, header, cellText, cellsText, listingOf, refusedOf}
-
--- ---- place by place
-
-cells-append : (xs ys : List Cell) → cellsText (xs ++ ys) ≡ cellsText xs ++ cellsText ys
-cells-append [] ys = refl
-cells-append (x ∷ xs) ys = rw (cells-append xs ys) (sym (append-assoc (cellText x) (cellsText xs) (cellsText ys)))
-
--- what place k adds to the listing
-abbrev pub lineAt : List ℕ → List ℕ → ℕ → List ℕ
-lineAt memory writers k = cellsText (cellsAt memory writers k)
+use Rattle.listing.specs.Listing.{cell, cellAt, isWritten, cellsOf, header, cellText, cellsText, lineAt, listingOf, refusedOf}
 
 module _ (memory writers : List ℕ) where
-  cells-parts : (n k : ℕ) → partsFrom (lineAt memory writers) k n ≡ cellsText (cellsFrom memory writers k n)
-  cells-parts zero k = refl
-  cells-parts (suc n) k =
-      ap (λ (l : List ℕ). lineAt memory writers k ++ l) (cells-parts n (k + 1))
-      ∙ sym (cells-append (cellsAt memory writers k) (cellsFrom memory writers (k + 1) n))
-
   pub listing-parts : header ++ partsFrom (lineAt memory writers) 0 places ≡ listingOf memory writers
   unfolding listingOf cellsOf
-  listing-parts = ap (λ (l : List ℕ). header ++ l) (cells-parts places 0)
+  listing-parts = ap (λ (l : List ℕ). header ++ l) (chosen-parts (isWritten writers) (cellAt memory writers) cellText places 0)
 
 -- ---- how long
 
@@ -54,13 +38,13 @@ cell-bound c b v n hc hb hv hn =
 
 module _ (memory writers : List ℕ) (hm : Bounded (2 ^ 8) memory) (hw : Bounded (2 ^ 64) writers) where
   line-bound : (k : ℕ) → k < places → length (lineAt memory writers k) ≤ 32
-  line-bound k h = go (eqb (getD writers k 0) 0)
+  line-bound k h = go (isWritten writers k)
     where
-      go : (t : Bool) → length (cellsText (cond t [] (cell (k % 101) (k / 101) (getD memory k 0) (getD writers k 0) ∷ []))) ≤ 32
-      go true = omega arith
-      go false =
-          rw (append-nil (cellText (cell (k % 101) (k / 101) (getD memory k 0) (getD writers k 0))))
+      go : (t : Bool) → length (cellsText (cond t (cellAt memory writers k ∷ []) [])) ≤ 32
+      go true =
+          rw (append-nil (cellText (cellAt memory writers k)))
           (cell-bound (k % 101) (k / 101) (getD memory k 0) (getD writers k 0) (omega arith) (omega arith) (omega (arith, hm k)) (omega (arith, hw k)))
+      go false = omega arith
 
   -- the header's 23 bytes, and 32 for each cell: three digits of column, two of bank, three of the byte and twenty of the event
   pub listing-bound : length (listingOf memory writers) ≤ 54967
@@ -74,6 +58,7 @@ module _ (memory writers : List ℕ) (hm : Bounded (2 ^ 8) memory) (hw : Bounded
             parts-bound (lineAt memory writers) 32 places line-bound n 0 (omega arith),
           )
 
-pub refused-bound : (n : ℕ) → n < 10 ^ 20 → length (refusedOf n) ≤ 29
+-- the word and its tab, what tells the file, at most twenty digits, and the newline
+pub refused-bound : (file : List ℕ) (n : ℕ) → n < 10 ^ 20 → length (refusedOf file n) ≤ length file + 29
 unfolding refusedOf
-refused-bound n h = omega (arith, length-append (decimalOf n) (10 ∷ []), decimal-bound 19 n h)
+refused-bound file n h = omega (arith, length-append (file ++ decimalOf n) (10 ∷ []), length-append file (decimalOf n), decimal-bound 19 n h)

@@ -6,17 +6,18 @@ use Prim.Native.Nat.{ℕ, _+_, _*_, _<_}
 use native.Mathlib.Omega.{arith}
 use lib.ListN.{getD, length}
 use Rattle.chip.specs.LastWriter.{StoredAt, before}
+use Rattle.print.specs.Chosen.{InOrder}
 use Rattle.capture.specs.Cells.{start}
 use Rattle.listing.specs.LastWriters.{NamesLastWriter}
 use Rattle.listing.specs.Listing.{Cell, cell, cellsOf}
-use Rattle.listing.specs.Order.{WrittenCell, InOrder}
+use Rattle.listing.specs.Order.{WrittenCell, Before}
 use Rattle.listing.proofs.Laws.{cells-in-order, cells-exactly}
 
 module _ (memory writers : List ℕ) where
   -- by column, then bank: column 0 of bank 1 before column 1 of bank 0
   pub not-by-column : (a b m n : ℕ) → cellsOf memory writers ≡ cell 0 1 a m ∷ cell 1 0 b n ∷ [] → ⊥
   not-by-column a b m n e =
-      let order = subst InOrder e (cells-in-order memory writers) in
+      let order = subst (λ (cs : List Cell). InOrder Before cs) e (cells-in-order memory writers) in
       ⊎-elim (λ l. omega (arith, l)) (λ l. omega (arith, l .0)) (order .0 (cell 1 0 b n) (List·Memᴰ·head refl))
 
   -- a cell into which event 10 wrote 0 left out

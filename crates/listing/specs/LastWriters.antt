@@ -7,8 +7,9 @@ use lib.ListN.{getD, length}
 use Rattle.chip.specs.LastWriter.{StoredAt, before}
 use Rattle.chip.specs.Promised.{storedOf}
 use Rattle.capture.specs.Cells.{start}
+use Rattle.print.specs.Chosen.{InOrder}
 use Rattle.listing.specs.Listing.{Cell, header, cellsText}
-use Rattle.listing.specs.Order.{InOrder}
+use Rattle.listing.specs.Order.{Before}
 
 -- the capture's n-th event, n being the cell's, is the last display byte stored at the cell, and left the cell's byte there
 pub record NamesLastWriter (pins : ℕ) (es : List ℕ) (c : Cell) : Type 0 where
@@ -26,5 +27,5 @@ pub record NamesLastWriter (pins : ℕ) (es : List ℕ) (c : Cell) : Type 0 wher
 pub record ListsLastWriters (pins : ℕ) (es text : List ℕ) : Type 0 where
   pub cells : List Cell
   pub is-text : text ≡ header ++ cellsText cells
-  pub in-order : InOrder cells
+  pub in-order : InOrder Before cells
   pub exactly : (c : Cell) → List·Memᴰ c cells ↔ NamesLastWriter pins es c

@@ -1,5 +1,5 @@
 -- What the cells of the listing are, place by place: which cells are listed, and in which order.
-use mathlib.Core.List.{List, [], _∷_, List·Memᴰ}
+use mathlib.Core.List.{List}
 use mathlib.Core.Logic.{_⊎_}
 use mathlib.Core.Path.{_≡_}
 use Prim.Native.Nat.{ℕ, _+_, _*_, _≤_, _<_}
@@ -17,8 +17,3 @@ pub record WrittenCell (memory writers : List ℕ) (c : Cell) : Type 0 where
 -- by bank, then column
 abbrev pub Before : Cell → Cell → Type 0
 Before c d = (c .bank < d .bank) ⊎ ((c .bank ≡ d .bank) × (c .column < d .column))
-
--- each cell stands before all that follow it, so that none comes twice
-abbrev pub InOrder : List Cell → Type 0
-InOrder [] = Unit {0}
-InOrder (c ∷ cs) = ((d : Cell) → List·Memᴰ d cs → Before c d) × InOrder cs

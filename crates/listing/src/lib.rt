@@ -3,9 +3,9 @@ ghost use mathlib.Core.Path.{_≡_};
 ghost use Prim.Native.Nat.{_+_, _<_};
 ghost use lib.ListN.{length};
 ghost use Rattle.registers.specs.State.{places};
-ghost use Rattle.print.specs.Printed.{Wrote, output};
-ghost use Rattle.listing.specs.Listing.{cell, cellsAt, cellText, cellsText, listingOf, refusedOf, listingCall, refusedCall};
-ghost use Rattle.listing.specs.ReplayText.{replayTextCall};
+ghost use Rattle.print.specs.Printed.{Wrote, output, wholeText};
+ghost use Rattle.listing.specs.Listing.{cell, cellText, lineAt, listingOf, refusedOf, listingCall};
+ghost use Rattle.listing.specs.ReplayText.{refusedCall, replayTextCall};
 use capture::End;
 use print::Written;
 
@@ -26,7 +26,7 @@ fn cell(column: u64, bank: u64, byte: u64, event: u64, out: &mut [u8], at: usize
 // The line of place k, if the cell there has a writer.
 fn cell_at(memory: &[u8], writers: &[u64], k: usize, out: &mut [u8], at: usize) -> usize
     requires { ⌜ (k < length (now memory)) × (k < length (now writers)) ⌝ }
-    ensures { λ r. ⌜ Wrote (now (out .entry)) at (cellsText (cellsAt (now (memory .entry)) (now (writers .entry)) k)) (now (out .exit)) r ⌝ }
+    ensures { λ r. ⌜ Wrote (now (out .entry)) at (lineAt (now (memory .entry)) (now (writers .entry)) k) (now (out .exit)) r ⌝ }
 {
     let event = writers[k];
     if event == 0 {
@@ -72,24 +72,38 @@ pub fn listing(memory: &[u8], writers: &[u64], out: &mut [u8]) -> Written
     Written::Text(cells(memory, writers, out))
 }
 
-fn refused_line(n: u64, k: u8, out: &mut [u8]) -> usize
-    ensures { λ r. ⌜ Wrote (now (out .entry)) 0 (refusedOf (n + k)) (now (out .exit)) r ⌝ }
+fn refused_line(file: &[u8], n: u64, k: u8, out: &mut [u8]) -> usize
+    ensures { λ r. ⌜ Wrote (now (out .entry)) 0 (refusedOf (now (file .entry)) (n + k)) (now (out .exit)) r ⌝ }
 {
     let word = print::bytes(b"refused\t", out, 0);
-    let number = print::decimal_plus(n, k, out, word);
+    let before = print::bytes(file, out, word);
+    let number = print::decimal_plus(n, k, out, before);
     print::byte(NEWLINE, out, number)
 }
 
 // The line of a capture that is bad at line n + k, which may be past the largest u64: a capture's event n, from 0, stands in line n + 2.
-pub fn refused(n: u64, k: u8, out: &mut [u8]) -> Written
-    ensures { λ r. ⌜ output r (now (out .exit)) ≡ refusedCall (n + k) (now (out .entry)) ⌝ }
+fn refused_at(file: &[u8], n: u64, k: u8, out: &mut [u8]) -> Written
+    ensures { λ r. ⌜ output r (now (out .exit)) ≡ wholeText 0 (refusedOf (now (file .entry)) (n + k)) (now (out .entry)) ⌝ }
 {
     let mut none = [0u8; 0];
-    let needed = refused_line(n, k, &mut none);
+    let needed = refused_line(file, n, k, &mut none);
     if out.len() < needed {
         return Written::Short(needed);
     }
-    Written::Text(refused_line(n, k, out))
+    Written::Text(refused_line(file, n, k, out))
+}
+
+// The one line of a capture that was refused at a line, from the start of `out` on; nothing of one that was replayed. What `file` holds stands before
+// the line's number: a program with several captures tells there which it is.
+pub fn refused(file: &[u8], end: End, out: &mut [u8]) -> Written
+    ensures { λ r. ⌜ output r (now (out .exit)) ≡ refusedCall (now (file .entry)) end (now (out .entry)) ⌝ }
+{
+    match end {
+        End::Refused(number) => Written::Refused(number),
+        End::BadFirst => refused_at(file, 0, 1, out),
+        End::Bad(chip) => refused_at(file, chip.count, 2, out),
+        End::Whole(_) => Written::Text(0),
+    }
 }
 
 // What is printed of a capture that came to `end` and left these memories: the listing, or the line where it is bad, from the start of `out` on.
@@ -100,10 +114,8 @@ pub fn replay_text(end: End, memory: &[u8], writers: &[u64], out: &mut [u8]) -> 
     if wrong != 0 {
         return Written::Refused(wrong);
     }
-    match end {
-        End::Refused(number) => Written::Refused(number),
-        End::BadFirst => refused(0, 1, out),
-        End::Bad(chip) => refused(chip.count, 2, out),
-        End::Whole(_) => listing(memory, writers, out),
-    }
+    let End::Whole(_) = end else {
+        return refused(b"", end, out);
+    };
+    listing(memory, writers, out)
 }

@@ -1,7 +1,7 @@
 -- What is promised of numbers as they are printed, and of a whole text that has no room.
 use mathlib.Core.Bool.{Bool, true, false, cond}
 use mathlib.Core.List.{List}
-use mathlib.Core.Logic.{_↔_}
+use mathlib.Core.Logic.{_⊎_, _↔_, ⊎-elim}
 use mathlib.Core.Path.{_≡_, refl, sym, ap, _∙_}
 use Prim.Native.Nat.{ℕ, zero, suc, _≤_, _<_}
 use native.Mathlib.Nat.{zero-add}
@@ -90,3 +90,23 @@ pub short-exactly :
     (short : ℕ) → (short ≡ 0 → ⊥) → (xs l : List ℕ)
     → ((writtenNumber short (wholeText 0 xs l .answer) ≡ short) ↔ (length l < length xs)) × (writtenLength (wholeText 0 xs l .answer) ≡ length xs)
 short-exactly short some xs l = let says = number-says short some xs l in (says .is-short, says .needed)
+
+-- it is refused exactly by a refusal that there is, and by its number
+pub refused-exactly : (k : ℕ) (xs l : List ℕ) (n : ℕ) → (wholeText k xs l .answer ≡ Refused n) ↔ ((k ≡ n) × (n ≡ 0 → ⊥))
+unfolding wholeText
+refused-exactly zero xs l n = (λ e. absurd (go (leb (length xs) (length l)) e), λ h. absurd (h .1 (sym (h .0))))
+  where
+    go : (t : Bool) → cond t (output (Text (length xs)) (sets l 0 xs)) (output (Short (length xs)) l) .answer ≡ Refused n → ⊥
+    go true h = let z : _≡_ {A = ℕ} 0 1 = cc h in omega arith
+    go false h = let z : _≡_ {A = ℕ} 0 1 = cc h in omega arith
+refused-exactly (suc k) xs l n = (λ e. let same : suc k ≡ n = cc e in (same, λ z. omega arith), λ h. ap Refused (h .0))
+
+-- so where one condition decides between no refusal and 1
+pub refused-by-1 :
+    (P : Type 0) (r : ℕ) → P ⊎ (P → ⊥) → (P → r ≡ 0) → ((P → ⊥) → r ≡ 1) → (xs l : List ℕ) (k : ℕ)
+    → (wholeText r xs l .answer ≡ Refused k) ↔ ((k ≡ 1) × (P → ⊥))
+refused-by-1 P r either passes refuses xs l k = (
+  λ e. let is = refused-exactly r xs l k .0 e in
+      ⊎-elim (λ p. absurd (is .1 (sym (is .0) ∙ passes p))) (λ n. (sym (is .0) ∙ refuses n, n)) either,
+  λ h. refused-exactly r xs l k .1 (refuses (h .1) ∙ sym (h .0), λ z. omega (arith, h .0)),
+)

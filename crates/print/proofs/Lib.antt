@@ -4,3 +4,4 @@ pub mod Laws
 pub mod Whole
 pub mod Writing
 pub mod Wrong
+pub mod Chosen

@@ -79,6 +79,10 @@ wrote-then {l} {m} {r} {i} {j} {k} {xs} {ys} h a b =
           ∙ ap (λ (n : ℕ). placeAfter i n) (sym (length-append xs ys));
     }
 
+-- a buffer keeps its length
+pub wrote-length : {l m : List ℕ} {i j : ℕ} {xs : List ℕ} → Wrote l i xs m j → length m ≡ length l
+wrote-length {l} {m} {i} {j} {xs} w = ap (λ (k : List ℕ). length k) (w .list) ∙ length-sets l i xs
+
 pub wrote-next : {l m : List ℕ} {i j : ℕ} {xs : List ℕ} → Wrote l i xs m j → j ≤ top
 wrote-next {i = i} {xs = xs} w = omega (arith, w .next, after-bound i (length xs))
 

@@ -19,15 +19,15 @@ fn show(chip: Chip, memory: &[u8]) {
 }
 
 // The line of a capture that is bad.
-fn refused(end: End, memory: &[u8], writers: &[u64]) {
+fn refused(end: End) {
     let mut out = [0u8; 64];
-    let length = listing::replay_text(end, memory, writers, &mut out).length();
+    let length = listing::refused(b"", end, &mut out).length();
     program_io::put(&out, length, b"view: standard output");
 }
 
-fn tell(end: End, memory: &[u8], writers: &[u64]) {
+fn tell(end: End, memory: &[u8]) {
     let End::Whole(chip) = end else {
-        refused(end, memory, writers);
+        refused(end);
         return;
     };
     show(chip, memory);
@@ -42,7 +42,7 @@ fn view(fd: i32) {
         os::fail(b"reading the capture");
         return;
     }
-    tell(end, &memory, &writers);
+    tell(end, &memory);
 }
 
 fn main() {

@@ -21,11 +21,12 @@ same-length c = search needs
 
 returns : tie.Need-returns
 returns c =
-    cell-wrote _ _ _ _ (omega arith) (omega arith) (omega arith)
-    (c .before .before .before .before .before .before .before .before .before .before .before .before .before .before .field .ensures)
-    (c .before .before .before .before .before .before .before .before .before .before .field2 .ensures)
-    (c .before .before .before .before .before .before .field3 .ensures)
-    (c .before .before .field4 .ensures)
+    let fourth = c .before .before in
+    let third = fourth .before .before .before .before in
+    let second = third .before .before .before .before in
+    let first = second .before .before .before .before in
+    let start = first .before .before .before in
+    cell-wrote _ _ _ _ (omega (arith, start .good .1 .1 .1 .1 .0)) (first .field .ensures) (second .field2 .ensures) (third .field3 .ensures) (fourth .field4 .ensures)
 
 pub cell-spec : {M : Type 1} → statement M
 cell-spec =

@@ -1,5 +1,6 @@
 use native.Mathlib.Omega.{arith}
-use Rattle.listing.proofs.CodeWays.{wrote-no-cell, wrote-cell}
+use Rattle.print.proofs.Chosen.{so-same, so-not-same, wrote-chosen, wrote-passed}
+use Rattle.listing.specs.Listing.{cellAt, isWritten, cellText}
 use borrow.Author.Needs.{needs}
 use Rattle.listing.proofs.cell_at.Statement.{statement}
 use Rattle.listing.proofs.cell_at.Tie as tie
@@ -13,7 +14,8 @@ shared-slice-read-event c = search needs
 returns : tie.Need-returns
 returns c =
     let args = c .before .before .before .before .before .args in
-    wrote-no-cell (args .memory .now) (args .writers .now) _ _ _ (omega arith) (c .if1 .taken)
+    wrote-passed (isWritten (args .writers .now)) (cellAt (args .memory .now) (args .writers .now)) cellText _ _ (omega arith)
+    (so-same _ _ (c .if1 .taken))
 
 shared-slice-read-cell : tie.Need-shared-slice-read-cell
 shared-slice-read-cell c = search needs
@@ -30,7 +32,8 @@ same-length c = search needs
 returns-2 : tie.Need-returns-2
 returns-2 c =
     let args = c .before .before .before .before .before .before .before .before .before .before .args in
-    wrote-cell (args .memory .now) (args .writers .now) _ (c .before .before .before .before .before .if1 .left) (c .before .before .cell .ensures)
+    wrote-chosen (isWritten (args .writers .now)) (cellAt (args .memory .now) (args .writers .now)) cellText
+    (so-not-same _ _ (c .before .before .before .before .before .if1 .left)) (c .before .before .cell .ensures)
 
 pub cell-at-spec : {M : Type 1} → statement M
 cell-at-spec =

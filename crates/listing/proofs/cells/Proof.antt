@@ -7,7 +7,7 @@ use Rattle.registers.specs.State.{places}
 use Rattle.print.specs.Printed.{top, Wrote, partsFrom}
 use Rattle.print.proofs.Writing.{wrote-next, parts-turn, parts-end}
 use Rattle.listing.proofs.CodeWays.{listing-wrote}
-use Rattle.listing.proofs.Lines.{lineAt}
+use Rattle.listing.specs.Listing.{lineAt}
 use borrow.Author.Needs.{needs}
 use Rattle.listing.proofs.cells.Statement.{statement}
 use Rattle.listing.proofs.cells.Tie as tie

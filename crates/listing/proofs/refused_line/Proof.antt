@@ -10,6 +10,9 @@ slice-aggregate-bytes c = search needs
 bytes-requires : tie.Need-bytes-requires
 bytes-requires c κs = search needs
 
+bytes-requires-2 : tie.Need-bytes-requires-2
+bytes-requires-2 c κs = search needs
+
 decimal-plus-requires : tie.Need-decimal-plus-requires
 decimal-plus-requires c κs = search needs
 
@@ -21,10 +24,13 @@ same-length c = search needs
 
 returns : tie.Need-returns
 returns c =
-    let third = c .before .before in
+    let fourth = c .before .before in
+    let third = fourth .before .before .before .before in
     let second = third .before .before .before .before in
     let first = second .before .before .before .before in
-    refused-wrote _ (omega arith) (omega arith) (first .bytes .ensures) (second .decimal-plus .ensures) (third .byte .ensures)
+    let start = first .before .before .before .before .before in
+    refused-wrote _ _ (omega (arith, start .good .1 .1 .1 .0)) (first .bytes .ensures) (second .bytes2 .ensures) (third .decimal-plus .ensures)
+    (fourth .byte .ensures)
 
 pub refused-line-spec : {M : Type 1} → statement M
 refused-line-spec =
@@ -32,6 +38,7 @@ refused-line-spec =
     (tie.spec
     slice-aggregate-bytes
     bytes-requires
+    bytes-requires-2
     decimal-plus-requires
     byte-requires
     same-length
