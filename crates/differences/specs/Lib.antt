@@ -1,0 +1,4 @@
+pub mod Differences
+pub mod Which
+pub mod Comparison
+pub mod LastWriters
