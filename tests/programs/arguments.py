@@ -48,6 +48,11 @@ def relative_files(sides):
                         file.write(content)
                     sides.same(words + [name], b"")
                     os.remove(name)
+                sides.same(["compare", name, name], CAPTURE)
+                with open(name, "wb") as file:
+                    file.write(CAPTURE)
+                sides.same(["compare", name, "./" + name], b"")
+                os.remove(name)
         finally:
             os.chdir(here)
 
@@ -67,6 +72,22 @@ def unreadable(sides):
                 sides.same(words + [locked], content)
 
 
+def two_files(sides):
+    """Both files are opened first; the first is read whole, and the second only where it is good."""
+    with tempfile.TemporaryDirectory() as directory:
+        good, bad, missing = (os.path.join(directory, name) for name in ("gr\u00fcn und gut", "bad", "missing"))
+        for path, content in ((good, CAPTURE), (bad, CAPTURE + b"261\n")):
+            with open(path, "wb") as file:
+                file.write(content)
+        paths = good, bad, missing, directory, "", os.path.join(good, "below"), "/dev/null", "/dev/stdin"
+        for first in paths:
+            for second in paths:
+                sides.same(["compare", first, second], texts.capture([256]))
+        sides.exactly(["compare", bad, directory], b"", b"refused\t1\t%d\n" % (len(captures.GOOD) + 2))
+        for words in ([], [good], [good, good, good], [good, good, ""], [good, good, missing]):
+            sides.same(["compare"] + words, CAPTURE)
+
+
 def wrong_calls(sides):
     """Too many words, none where pins are wanted, pins that are none."""
     with tempfile.TemporaryDirectory() as directory:
@@ -82,4 +103,4 @@ def wrong_calls(sides):
             sides.same(["draw", pins, path], b"")
 
 
-THEMES = [wrong_calls, files, large_files, relative_files, unreadable]
+THEMES = [wrong_calls, two_files, files, large_files, relative_files, unreadable]

@@ -1,10 +1,10 @@
-"""Holds the programs replay, draw and view against the model's programs, byte by byte.
+"""Holds the programs replay, draw, view and compare against the model's programs, byte by byte.
 
     main.py [--status] PROGRAMS MODEL [quick GROUP...]
 
-PROGRAMS and MODEL are directories with the three programs. `--status` asks for a status that is not 0
+PROGRAMS and MODEL are directories with the four programs. `--status` asks for a status that is not 0
 where a call fails. `quick` takes a sample of the cases, of these groups only: arguments, captures,
-lists.
+pairs, lists.
 """
 import os
 import sys
@@ -12,10 +12,12 @@ import sys
 import arguments
 import captures
 import lists
-from compare import Difference, Sides, report
+import pairs
+from sides import Difference, Sides, report
 
 
-GROUPS = {"arguments": arguments.THEMES, "captures": captures.THEMES, "lists": lists.THEMES}
+GROUPS = {"arguments": arguments.THEMES, "captures": captures.THEMES, "pairs": pairs.THEMES,
+          "lists": lists.THEMES}
 
 
 def compare(sides, groups):

@@ -13,10 +13,11 @@ import fcntl
 import os
 import subprocess
 import sys
+import tempfile
 import termios
 import time
 
-SECONDS = 120
+SECONDS = 600
 
 
 class Difference(Exception):
@@ -116,32 +117,47 @@ class Sides:
     def words(self, directory, words):
         return [os.path.join(directory, words[0])] + words[1:]
 
-    def judge(self, what, data, ours, theirs):
+    def judge(self, what, inputs, ours, theirs):
         wrong = difference(ours, theirs, self.with_status)
         if wrong:
-            raise Difference(f"{self.theme}: {what}\ninput: {shown(data)}\n{wrong}")
+            raise Difference(f"{self.theme}: {what}\ninput: {', '.join(map(shown, inputs))}\n{wrong}")
         self.compared += 1
         return theirs
 
     def same(self, words, data=b""):
         """WORDS are the program's name and its arguments; DATA is its standard input."""
-        return self.judge(" ".join(words), data, run(self.words(self.programs, words), data),
+        return self.judge(" ".join(words), [data], run(self.words(self.programs, words), data),
                           run(self.words(self.model, words), data))
 
     def exactly(self, words, data, output):
         """The same, and the output is this one, known without the model."""
-        if self.same(words, data).output != output:
-            raise Difference(f"{self.theme}: the model's {words[0]} does not print {shown(output)}")
+        self.known(words[0], self.same(words, data), output)
+
+    def known(self, program, theirs, output):
+        """What the model's program left is this output."""
+        if theirs.output != output:
+            raise Difference(f"{self.theme}: the model's {program} does not print {shown(output)}")
+
+    def same_of_files(self, program, contents):
+        """The arguments are the names of files with these contents."""
+        with tempfile.TemporaryDirectory() as directory:
+            paths = [os.path.join(directory, str(i + 1)) for i in range(len(contents))]
+            for path, content in zip(paths, contents):
+                with open(path, "wb") as file:
+                    file.write(content)
+            words = [program] + paths
+            return self.judge(" ".join(words), contents, run(self.words(self.programs, words), b""),
+                              run(self.words(self.model, words), b""))
 
     def same_in_pieces(self, words, data, pieces):
-        return self.judge(" ".join(words) + ", in pieces", data,
+        return self.judge(" ".join(words) + ", in pieces", [data],
                           run_in_pieces(self.words(self.programs, words), data, pieces),
                           run(self.words(self.model, words), data))
 
     def same_piped(self, first, second, data):
         both = [self.words(directory, words) for directory in (self.programs, self.model)
                 for words in (first, second)]
-        return self.judge(" ".join(first) + " | " + " ".join(second), data,
+        return self.judge(" ".join(first) + " | " + " ".join(second), [data],
                           run_piped(both[0], both[1], data), run_piped(both[2], both[3], data))
 
     def sample(self, cases, count):

@@ -1,0 +1,65 @@
+/* compare FIRST SECOND: the cells and the registers that differ after two captures. */
+#include "capture.h"
+#include "program.h"
+
+#include <inttypes.h>
+#include <stdbool.h>
+
+/* The registers in the paper's order, by their names in drawing lists; h, x, y and gr have none there. */
+static const char *const names[] = {
+    [H] = "h", [DO] = "do", [PD] = "pd", [V] = "v", [D] = "d", [E] = "e", [MX] = "mx", [MY] = "my",
+    [PS] = "ps", [X] = "x", [Y] = "y", [BS] = "bs", [BSH] = "bsh", [DP] = "dp", [PRS] = "prs",
+    [HVE] = "hve", [S] = "s", [TC] = "tc", [SM] = "sm", [VOP] = "vop", [GR] = "gr", [GS0] = "gs0",
+    [GS1] = "gs1", [GS2] = "gs2", [GS3] = "gs3", [DOF] = "dof", [DM] = "dm", [EC] = "ec", [OC] = "oc"
+};
+
+static bool cells_differ(const struct played *first, const struct played *second, unsigned place)
+{
+    return first->memory[place] != second->memory[place]
+        || first->writers[place] != second->writers[place];
+}
+
+static void print_cells(const struct played *first, const struct played *second)
+{
+    for (unsigned bank = 0; bank < BANKS; bank++)
+        for (unsigned column = 0; column < COLUMNS; column++) {
+            unsigned place = COLUMNS * bank + column;
+            if (cells_differ(first, second, place))
+                printf("%u\t%u\t%u\t%u\t%" PRIu64 "\t%" PRIu64 "\n", column, bank,
+                       first->memory[place], second->memory[place],
+                       first->writers[place], second->writers[place]);
+        }
+}
+
+static void print_registers(const struct played *first, const struct played *second)
+{
+    for (int word = H; word <= OC; word++)
+        if (first->record[word] != second->record[word])
+            printf("%s\t%" PRIu64 "\t%" PRIu64 "\n", names[word], first->record[word],
+                   second->record[word]);
+}
+
+/* Gives whether the capture is good; of a bad one the refusal is printed, with the file's number. */
+static bool play(FILE *file, unsigned number, struct played *played)
+{
+    uint64_t bad_line = play_capture(file, played);
+    check_input("compare", file);
+    if (bad_line != 0)
+        printf("refused\t%u\t%" PRIu64 "\n", number, bad_line);
+    return bad_line == 0;
+}
+
+int main(int argc, char **argv)
+{
+    static struct played first, second;
+    if (argc != 3)
+        give_up("compare", "usage: compare FIRST SECOND");
+    FILE *first_file = open_input("compare", argv[1]);
+    FILE *second_file = open_input("compare", argv[2]);
+    if (!play(first_file, 1, &first) || !play(second_file, 2, &second))
+        return 0;
+    printf("column\tbank\tfirst byte\tsecond byte\tfirst event\tsecond event\n");
+    print_cells(&first, &second);
+    print_registers(&first, &second);
+    return 0;
+}
