@@ -78,6 +78,75 @@ mutant 'one value a pixel' 's/P3/P2/; s/"%u %u %u.n", grey, grey, grey/"%u\\n", 
 mutant 'several pixels a line' 's/%u %u %u.n/%u %u %u /'
 mutant 'refused capture shown' 's/printf("refused.*/print_glass(\&played);/'
 
+groups=pairs
+model=compare
+mutant 'bytes not compared' 's/first->memory\[place\] != second->memory\[place\]/false/'
+mutant 'writer numbers not compared' 's/first->writers\[place\] != second->writers\[place\]/false/'
+mutant 'writer numbers compared by 8 bits' \
+    's/first->writers\[place\] != second/(uint8_t)first->writers[place] != (uint8_t)second/'
+mutant 'writer numbers compared by 16 bits' \
+    's/first->writers\[place\] != second/(uint16_t)first->writers[place] != (uint16_t)second/'
+mutant 'cells that differ in both' '/first->memory\[place\] !=/,/;/ s/||/\&\&/'
+mutant 'a line for the byte and one for the event' \
+    's/if (cells_differ.*/for (int i = (first->memory[place] != second->memory[place]) + (first->writers[place] != second->writers[place]); i > 0; i--)/'
+mutant 'cells that only the second has written left out' 's/if (cells_differ(/if (first->writers[place] \&\& cells_differ(/'
+mutant 'cells that only the first has written left out' 's/if (cells_differ(/if (second->writers[place] \&\& cells_differ(/'
+mutant 'equal cells listed' 's/if (cells_differ(.*/if (first->writers[place])/'
+mutant 'cells by column, then bank' \
+    's/bank = 0; bank < BANKS; bank++/column = 0; column < COLUMNS; column++/; t; s/column = 0; column < COLUMNS; column++/bank = 0; bank < BANKS; bank++/'
+mutant 'bank 16 left out' 's/bank < BANKS/bank < BANKS - 1/'
+mutant 'column 0 left out' 's/column = 0;/column = 1;/'
+mutant 'column 100 left out' 's/column < COLUMNS/column < COLUMNS - 1/'
+mutant 'column and bank exchanged' 's/, column, bank,/, bank, column,/'
+mutant 'bytes exchanged' 's/first->memory\[place\], second->memory/second->memory[place], first->memory/'
+mutant 'events exchanged' 's/first->writers\[place\], second->writers/second->writers[place], first->writers/'
+mutant 'byte and event of one capture side by side' \
+    's/first->memory\[place\], second->memory\[place\],/first->memory[place], (unsigned)first->writers[place],/; s/first->writers\[place\], second->writers/(uint64_t)second->memory[place], second->writers/'
+mutant 'event numbers of 8 bits' 's/first->writers\[place\], second->writers/(uint64_t)(uint8_t)first->writers[place], second->writers/'
+mutant 'event numbers of 16 bits' 's/first->writers\[place\], second->writers/(uint64_t)(uint16_t)first->writers[place], second->writers/'
+mutant 'no header' 's/printf("column.*/(void)0;/'
+mutant 'no header where nothing differs' 's/printf("column/if (__builtin_memcmp(\&first, \&second, sizeof first)) &/'
+mutant 'header before a refusal' 's/printf("refused/printf("column\\n"), &/'
+mutant 'names of the header in another order' 's/second byte.tfirst event/first event\\tsecond byte/'
+mutant 'register h left out' 's/word = H;/word = H + 1;/'
+mutant 'register gr left out' 's/if (first->record/if (word != GR \&\& first->record/'
+mutant 'register oc left out' 's/word <= OC/word < OC/'
+mutant 'bsh called bs' 's/"bsh"/"bs"/'
+mutant 'mx and my exchanged' 's/"mx"/"m"/; s/"my"/"mx"/; s/"m"/"my"/'
+mutant 'gr in capitals' 's/"gr"/"GR"/'
+mutant 'registers from the last' 's/word = H; word <= OC; word++/word = OC; word >= H; word--/'
+mutant 'y before x' \
+    's/int word = H; word <= OC; word++/int place = H, word; word = place == X ? Y : place == Y ? X : place, place <= OC; place++/'
+mutant 'register values exchanged' \
+    's/names\[word\], first->record/names[word], second->record/; s/^ *second->record\[word\]);/first->record[word]);/'
+mutant 'registers before the cells' 's/^    print_cells(&first/    print_registers(\&first/; t; s/^    print_registers(&first/    print_cells(\&first/'
+mutant 'registers left out where a cell differs' \
+    's/^    print_registers(&first/    if (!__builtin_memcmp(first.memory, second.memory, PLACES)) &/'
+mutant 'first register only' \
+    's/^    for (int word/    bool told = false; &/; s/if (\(first->record.*\))/for (; \1 \&\& !told; told = true)/'
+for word in SA TR LAST_RS PHASE COUNT; do
+    mutant "$word compared too" \
+        "s/\[OC\] = \"oc\"/&, [$word] = \"$word\"/; s/word <= OC; word++/word <= $word; word += word == OC ? $word - OC : 1/"
+done
+mutant 'second capture judged first' \
+    's/!play(first_file, 1, &first) || !play(second_file, 2, &second)/!play(second_file, 2, \&second) || !play(first_file, 1, \&first)/'
+mutant 'both refusals told' 's/!play(first_file, 1, &first) ||/!play(first_file, 1, \&first) |/'
+mutant 'second refusal passed over' 's/ || !play(second_file, 2, &second)/ || play(second_file, 2, \&second) \&\& 0/'
+mutant 'number of the file exchanged' 's/number, bad_line/3 - number, bad_line/'
+mutant 'refusal without its file' 's/refused.t%u.t%" PRIu64 ".n", number,/refused\\t%" PRIu64 "\\n",/'
+mutant 'refusal without its line' 's/refused.t%u.t%" PRIu64 ".n", number, bad_line/refused\\t%u\\n", number/'
+mutant 'first file twice' 's/argv\[2\]/argv[1]/'
+mutant 'files exchanged' 's/argv\[1\]/argv[3]/; s/argv\[2\]/argv[1]/; s/argv\[3\]/argv[2]/'
+
+model=capture
+mutant 'second capture played on the memory of the first' \
+    's/^    memset(played, 0, sizeof \*played);/    static struct played *before; if (before) *played = *before; else &; before = played;/'
+mutant 'second capture played on the registers of the first' \
+    's/^    while (stopped/    static uint64_t before[OC + 1]; static bool again; if (again) memcpy(played->record, before, sizeof before); &/; s/^    return 0;/    memcpy(before, played->record, sizeof before); again = true; &/'
+mutant 'events of the second capture counted on' \
+    's/^    while (stopped/    static uint64_t count; played->record[COUNT] = count; &/; s/^    return 0;/    count = played->record[COUNT]; &/'
+mutant 'lines of the second capture counted on' 's/uint64_t lines = 1;/static uint64_t lines; lines++;/'
+
 groups=lists
 model=draw
 mutant 'no pins line' 's/printf("pins.*/(void)0;/'
@@ -105,6 +174,15 @@ mutant 'words behind the list passed over' 's/argc < 2 || argc > 3/argc < 2/'
 model=replay
 mutant 'words behind the capture passed over' 's/if (argc > 2)/if (0)/'
 mutant 'file not read' 's/argc == 2 ? argv\[1\] : NULL/NULL/'
+mutant 'directory taken for an empty capture' 's/^    check_input.*//'
+
+model=compare
+mutant 'one file and standard input' 's/argc != 3/argc < 2 || argc > 3/'
+mutant 'words behind the captures passed over' 's/argc != 3/argc < 3/'
+mutant 'second file opened when the first was read' \
+    's/^    FILE \*second_file.*//; s/play(second_file, /play(open_input("compare", argv[2]), /'
+mutant 'second file read where the first is bad' \
+    's/^    if (!play(/    int byte = fgetc(second_file); check_input("compare", second_file); ungetc(byte, second_file); &/'
 mutant 'directory taken for an empty capture' 's/^    check_input.*//'
 
 model=program

@@ -7,9 +7,11 @@
 set -eu
 
 cc=${CC:-gcc}
+# The program itself: a wrapper of that name would be run for each error, and may take longer than Python.
+python=$(python3 -c 'import sys; print(sys.executable)')
 out=${TESTS_OUT:-target/tests}/mutants/programs
 flags='-std=c11 -Itests/model -O1 -w'
-programs='replay view draw'
+programs='replay view draw compare'
 
 # What the list of errors sets, and how many errors of it were met.
 model=
@@ -27,6 +29,7 @@ parts() {
     replay) echo replay capture program model ;;
     view) echo view capture program model glass ;;
     draw) echo draw program compile plain list model ;;
+    compare) echo compare capture program model ;;
     esac
 }
 
@@ -48,13 +51,13 @@ link_program() {
 holds() {
     directory=$1
     shift
-    python3 -B tests/programs/main.py --status "$directory" "$out/model" quick "$@"
+    "$python" -B tests/programs/main.py --status "$directory" "$out/model" quick "$@"
 }
 
 build_model() {
     rm -rf "$out"
     mkdir -p "$out/objects" "$out/model" "$out/tried"
-    for part in replay view draw capture program compile plain list model glass; do
+    for part in $programs capture program compile plain list model glass; do
         # shellcheck disable=SC2086
         "$cc" $flags -c "tests/model/$part.c" -o "$out/objects/$part.o"
     done
@@ -102,7 +105,7 @@ mutant() {
         cat "$own/log" >&2
         stop "$1: NOT found by the tests of the programs (exit $status)"
     fi
-    echo "found: $1 ($(sed -n '1s/^programs: DIFFERENT, //p' "$own/log"))" >"$own/found"
+    printf 'found: %s (%s)\n' "$1" "$(sed -n '1s/^programs: DIFFERENT, //p' "$own/log")" >"$own/found"
 }
 
 # Each worker goes through the whole list and tries what no other has begun.
