@@ -2,7 +2,7 @@
 import project
 
 COMPILER = ["drawing", "compiler"]
-INSIDE = ["engine", "commands", "display"]
+INSIDE = ["engine", "phases", "commands", "display"]
 # what the chip stands on, and the compiler may see
 SHARED = ["registers", "instruction_table", "text"]
 

@@ -33,8 +33,9 @@ unfoldable pub use Rattle.registers.specs.Table.{rowAt}
 unfoldable pub use Rattle.commands.specs.Command.{commandOf}
 unfoldable pub use Rattle.display.specs.Display.{storedOf, columnOf, placeOf, nextAddress}
 unfoldable pub use Rattle.engine.specs.Event.{isAcknowledged}
-unfoldable pub use Rattle.engine.specs.Phases.{isAddressed, phaseAfterAddress, phaseAfterLastRead}
-unfoldable pub use Rattle.engine.specs.Step.{entryRefusal, eventRefusal, refusalOf, acknowledge, controlled, readByte, pulsed, sensed, counted, applied, accepted, stepOf}
+unfoldable pub use Rattle.phases.specs.Phases.{isAddressed, phaseAfterAddress, phaseAfterLastRead}
+unfoldable pub use Rattle.engine.specs.Step.{entryRefusal, eventRefusal, refusalOf, acknowledge, counted, applied, accepted, stepOf}
+unfoldable pub use Rattle.phases.specs.Changes.{controlled, readByte, pulsed, sensed}
 unfoldable pub use Rattle.engine.specs.Run.{runFrom, runOf, lastAnswer}
 unfoldable pub use Rattle.chip.specs.Plays.{Plays}
 unfoldable pub use Rattle.text.specs.Decimal.{numberOf}

@@ -9,7 +9,7 @@ use Rattle.registers.specs.Record.{inPhase, withRegisters}
 use Rattle.registers.specs.State.{State, state}
 use Rattle.registers.proofs.Below.{false-true}
 use Rattle.engine.specs.declared.event.Event.{Event}
-use Rattle.engine.specs.Phases.{phaseAfterContent}
+use Rattle.phases.specs.Phases.{phaseAfterContent}
 use Rattle.engine.specs.Step.{onByte, applied, accepted, counted}
 use Rattle.engine.proofs.Events.{byte-event}
 use Rattle.chip.specs.Phases.{awaitsData, awaitsCommand, ignoresBytes, phaseAfterIgnored}

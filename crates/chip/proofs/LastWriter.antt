@@ -19,7 +19,8 @@ use Rattle.engine.specs.declared.event.Event.the-variants.{Byte, Start, Stop, R
 use Rattle.engine.specs.Event.{eventOf, isByte, isAcknowledged}
 use Rattle.engine.specs.Run
 use Rattle.engine.specs.Run.{unlessStopped, runFrom}
-use Rattle.engine.specs.Step.{controlled, pulsed, sensed, onByte, applied, accepted, counted}
+use Rattle.phases.specs.Changes.{controlled, pulsed, sensed}
+use Rattle.engine.specs.Step.{onByte, applied, accepted, counted}
 use Rattle.engine.proofs.Allowed.{accepted-fit, fit-place}
 use Rattle.engine.proofs.Events.{byte-event, other-event}
 use Rattle.chip.specs.Effects.{displayed}

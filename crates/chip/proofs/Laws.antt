@@ -9,8 +9,9 @@ use Rattle.registers.specs.Record.{inPhase, withRegisters}
 use Rattle.registers.specs.State.{State, state}
 use Rattle.engine.specs.declared.event.Event.{Event}
 use Rattle.engine.specs.Run.{runOf, unlessStopped, runFrom}
-use Rattle.engine.specs.Phases.{phaseAfterContent}
-use Rattle.engine.specs.Step.{accepted, applied, stepOf, counted, readByte}
+use Rattle.phases.specs.Phases.{phaseAfterContent}
+use Rattle.phases.specs.Changes.{readByte}
+use Rattle.engine.specs.Step.{accepted, applied, stepOf, counted}
 use Rattle.engine.proofs.Allowed.{accepted-fit}
 use Rattle.engine.proofs.Events.{sensor-event}
 use Rattle.engine.proofs.Refusals.{entry-fit}

@@ -15,9 +15,10 @@ use Rattle.registers.specs.declared.Phase.the-variants.{Idle, AddressAwaited, C
 use Rattle.registers.specs.State.{State}
 use Rattle.engine.specs.Run.{runOf, unlessStopped, runFrom}
 use Rattle.engine.specs.Event.{isAcknowledged}
-use Rattle.engine.specs.Step.{accepted, counted, controlled, acknowledge}
+use Rattle.phases.specs.Changes.{controlled}
+use Rattle.engine.specs.Step.{accepted, counted, acknowledge}
 use Rattle.engine.proofs.Refusals.{fit-entry}
-use Rattle.engine.specs.Phases.{isAddressed, phaseAfterAddress}
+use Rattle.phases.specs.Phases.{isAddressed, phaseAfterAddress}
 use Rattle.chip.specs.LastWriter.{before}
 use Rattle.chip.specs.Plays.{Good, Plays, played, Visible, writeAddress, singles, message, dataMessage, Does, Leads, advanced, written, Bytes}
 use Rattle.chip.specs.Plays.Leads.{no-more, by}

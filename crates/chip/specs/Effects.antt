@@ -3,7 +3,7 @@ use Prim.Native.Nat.{ℕ, _+_}
 use lib.ListN.{set}
 use Rattle.registers.specs.Record.{inPhase, withRegisters}
 use Rattle.registers.specs.State.{State}
-use Rattle.engine.specs.Phases.{phaseAfterContent}
+use Rattle.phases.specs.Phases.{phaseAfterContent}
 use Rattle.chip.specs.Promised.{Acknowledged, After, after, counted, storedOf, placeOf, nextAddress}
 
 -- display byte b is stored as the registers say, with the event's number, and the address moves on

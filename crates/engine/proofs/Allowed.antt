@@ -15,10 +15,11 @@ use Rattle.registers.proofs.Within.{allowed-registers, both-right}
 use Rattle.commands.proofs.Allowed.{command-allowed}
 use Rattle.display.specs.Display.{placeOf, storedOf}
 use Rattle.display.proofs.Address.{place-bound, next-allowed}
+use Rattle.phases.specs.Changes.{controlled, pulsed, sensed}
 use Rattle.engine.specs.declared.event.Event.{Event}
 use Rattle.engine.specs.declared.event.Event.the-variants.{Byte, Start, Stop, ReadAcknowledged, ReadNotAcknowledged, Reset, Sensor, Unlisted}
 use Rattle.engine.specs.Event.{eventOf}
-use Rattle.engine.specs.Step.{Fit, controlled, pulsed, sensed, contentOf, onByte, applied, accepted, counted}
+use Rattle.engine.specs.Step.{Fit, contentOf, onByte, applied, accepted, counted}
 
 -- the display address of what 1 and 2 let pass is within the memories
 pub fit-place : (s : State) → Fit s → placeOf (s .chip .registers) < 1717

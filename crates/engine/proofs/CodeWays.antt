@@ -15,11 +15,11 @@ use Rattle.registers.specs.Refusals.{_then_}
 use Rattle.registers.specs.State.{State, state}
 use Rattle.commands.specs.Command.{commandOf}
 use Rattle.display.specs.Display.{storedOf, placeOf, nextAddress}
+use Rattle.phases.specs.Phases.{awaitsContent, phaseAfterContent}
 use Rattle.engine.specs.declared.answer.Answer.{Answer}
 use Rattle.engine.specs.declared.answer.Answer.the-variants.{Refused, Nothing, Acknowledged}
 use Rattle.engine.specs.declared.event.Event.{Event}
 use Rattle.engine.specs.Event.{eventOf, isByte}
-use Rattle.engine.specs.Phases.{awaitsContent, phaseAfterContent}
 use Rattle.engine.specs.Run.{Outcome, outcome, runFrom, runOf, unlessStopped, answerUnless, answerFrom, lastAnswer}
 use Rattle.engine.specs.Step.{After, after, nothingStored, contentOf, onByte, applied, accepted, counted}
 use Rattle.engine.specs.Step.{entryRefusal, eventRefusal, refusalOf, unlessRefused, stepOf}

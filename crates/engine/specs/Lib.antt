@@ -1,4 +1,3 @@
 pub mod Event
-pub mod Phases
 pub mod Step
 pub mod Run

@@ -1,5 +1,5 @@
 -- One bus event (document 01, "Bus events", and 1 to 4 of "Numbers given back").
-use mathlib.Core.Bool.{Bool, true, false, cond, not, _&&_}
+use mathlib.Core.Bool.{Bool, true, false, cond, not}
 use mathlib.Core.List.{List}
 use mathlib.Core.Path.{_≡_}
 use Prim.Native.Nat.{ℕ, zero, suc, _+_, _-_, _^_}
@@ -8,17 +8,18 @@ use lib.ListN.{length, set}
 use Rattle.registers.specs.declared.Chip.{Chip}
 use Rattle.registers.specs.declared.Phase.{Phase}
 use Rattle.registers.specs.declared.Phase.the-variants.{Idle, AddressAwaited, Ignoring, ControlAwaited, OneByte, EndlessBytes, Reading, ReadEnded}
-use Rattle.registers.specs.Record.{allowed, resetChip, inPhase, withRegisters, withStatus, withLastRs, withCount}
+use Rattle.registers.specs.Record.{allowed, inPhase, withRegisters, withCount}
 use Rattle.registers.specs.Refusals.{refuse, _then_, lengthsRefusal, recordRefusal, isListedEvent}
 use Rattle.registers.specs.State.{State, state, places}
 use Rattle.commands.specs.Command.{commandOf}
 use Rattle.display.specs.Display.{storedOf, placeOf, nextAddress}
+use Rattle.phases.specs.Changes.{controlled, readByte, pulsed, sensed}
+use Rattle.phases.specs.Phases.{isAddressed, phaseAfterAddress, phaseAfterLastRead}
 use Rattle.engine.specs.declared.event.Event.{Event}
 use Rattle.engine.specs.declared.event.Event.the-variants.{Byte, Start, Stop, ReadAcknowledged, ReadNotAcknowledged, Reset, Sensor, Unlisted}
 use Rattle.engine.specs.declared.answer.Answer.{Answer}
 use Rattle.engine.specs.declared.answer.Answer.the-variants.{Refused, Nothing, Acknowledged, NotAcknowledged, Read}
 use Rattle.engine.specs.Event.{eventOf}
-use Rattle.engine.specs.Phases.{isAddressed, phaseAfterAddress, rsOf, phaseAfterControl, isReading, phaseAfterLastRead}
 
 -- ---- refusals, in their order; 0 is none
 
@@ -61,9 +62,6 @@ nothingStored a c s = after a c (s .memory) (s .writers)
 unfoldable pub acknowledge : Bool → Answer
 acknowledge t = cond t Acknowledged NotAcknowledged
 
-unfoldable pub controlled : ℕ → Chip → Chip
-controlled b c = withLastRs (inPhase c (phaseAfterControl b)) (rsOf b)
-
 -- a byte with RS 0 is a command, one with RS 1 display data, stored with the event's number; then the phase is p
 abbrev pub contentOf : Bool → Phase → ℕ → ℕ → State → After
 contentOf false p b number s = nothingStored Acknowledged (withRegisters (inPhase (s .chip) p) (commandOf b (s .chip .registers))) s
@@ -87,18 +85,6 @@ onByte Reading b number s = nothingStored NotAcknowledged (inPhase (s .chip) Ign
 onByte ReadEnded b number s = nothingStored NotAcknowledged (inPhase (s .chip) Ignoring) s
 
 -- ---- the other events
-
--- while reading: the status byte if the last RS is 0; everywhere else 255
-unfoldable pub readByte : Chip → ℕ
-readByte c = cond (isReading (c .phase) && not (c .«last_rs»)) (c .status) 255
-
--- a reset pulse keeps count and pins
-unfoldable pub pulsed : Chip → Chip
-pulsed c = withCount (resetChip (c .pins)) (c .count)
-
--- a sensor reading is taken where SM = 1 and PD = 0
-unfoldable pub sensed : ℕ → Chip → Chip
-sensed value c = withStatus c (cond (eqb (c .registers .sm) 1 && eqb (c .registers .pd) 0) value (c .status))
 
 unfoldable pub applied : Event → ℕ → State → After
 applied (Byte b) number s = onByte (s .chip .phase) b number s

@@ -43,17 +43,17 @@ fn on_other_event(event: Event, chip: Chip) -> Stepped
         Event::Byte(_) => without_answer(chip),
         Event::Start => without_answer(chip.in_phase(Phase::AddressAwaited)),
         Event::Stop => without_answer(chip.in_phase(Phase::Idle)),
-        Event::ReadAcknowledged => with_byte_read(crate::other::read_byte(chip), chip),
+        Event::ReadAcknowledged => with_byte_read(phases::other::read_byte(chip), chip),
         Event::ReadNotAcknowledged => {
-            let byte = crate::other::read_byte(chip);
+            let byte = phases::other::read_byte(chip);
             let phase = chip.phase;
             with_byte_read(
                 byte,
-                chip.in_phase(crate::other::phase_after_last_read(phase)),
+                chip.in_phase(phases::other::phase_after_last_read(phase)),
             )
         }
-        Event::Reset => without_answer(crate::other::pulsed(chip)),
-        Event::Sensor(value) => without_answer(crate::other::sensed(chip, value)),
+        Event::Reset => without_answer(phases::other::pulsed(chip)),
+        Event::Sensor(value) => without_answer(phases::other::sensed(chip, value)),
         Event::Unlisted => without_answer(chip),
     }
 }

@@ -6,19 +6,13 @@ ghost use Prim.Native.Nat.{ℕ};
 ghost use Rattle.registers.specs.Record.{inPhase};
 ghost use Rattle.registers.specs.State.{state};
 ghost use Rattle.engine.specs.declared.answer.Answer.the-variants.{NotAcknowledged};
-ghost use Rattle.engine.specs.Phases.{isAddressed, phaseAfterAddress, phaseAfterControl, rsOf, awaitsContent, phaseAfterContent};
-ghost use Rattle.engine.specs.Step.{after, acknowledge, controlled, contentOf, onByte};
+ghost use Rattle.phases.specs.Phases.{isAddressed, phaseAfterAddress, awaitsContent};
+ghost use Rattle.engine.specs.Step.{after, acknowledge, contentOf, onByte};
 use crate::answer::Answer;
 use crate::step::Stepped;
+use phases::byte;
 use registers::Chip;
 use registers::Phase;
-
-// High seven bits 01111 SA1 SA0.
-fn is_addressed(pins: u8, byte: u8) -> bool
-    ensures { λ r. ⌜ r ≡ isAddressed pins byte ⌝ }
-{
-    (byte / 2) as u16 == 60 + pins as u16
-}
 
 fn acknowledge(taken: bool) -> Answer
     ensures { λ r. ⌜ r ≡ acknowledge taken ⌝ }
@@ -27,79 +21,6 @@ fn acknowledge(taken: bool) -> Answer
         Answer::Acknowledged
     } else {
         Answer::NotAcknowledged
-    }
-}
-
-// The low bit of a matching address: 0 writes, 1 reads.
-fn phase_after_address(matched: bool, byte: u8) -> Phase
-    ensures { λ r. ⌜ r ≡ phaseAfterAddress matched byte ⌝ }
-{
-    if !matched {
-        return Phase::Ignoring;
-    }
-    if byte % 2 == 0 {
-        Phase::ControlAwaited
-    } else {
-        Phase::Reading
-    }
-}
-
-// Bit 6 of a control byte is RS.
-fn rs_of(byte: u8) -> bool
-    ensures { λ r. ⌜ r ≡ rsOf byte ⌝ }
-{
-    byte / 64 % 2 == 1
-}
-
-// Bit 7 of a control byte is Co: one byte, or bytes until START or STOP.
-fn phase_after_control(byte: u8) -> Phase
-    ensures { λ r. ⌜ r ≡ phaseAfterControl byte ⌝ }
-{
-    let rs = rs_of(byte);
-    if byte / 128 == 1 {
-        Phase::OneByte(rs)
-    } else {
-        Phase::EndlessBytes(rs)
-    }
-}
-
-fn controlled(chip: Chip, byte: u8) -> Chip
-    ensures { λ r. ⌜ r ≡ controlled byte chip ⌝ }
-{
-    let mut next = chip.in_phase(phase_after_control(byte));
-    next.last_rs = rs_of(byte);
-    next
-}
-
-// A command or display data comes next.
-fn awaits_content(phase: Phase) -> bool
-    ensures { λ r. ⌜ r ≡ awaitsContent phase ⌝ }
-{
-    match phase {
-        Phase::Idle => false,
-        Phase::AddressAwaited => false,
-        Phase::Ignoring => false,
-        Phase::ControlAwaited => false,
-        Phase::OneByte(_) => true,
-        Phase::EndlessBytes(_) => true,
-        Phase::Reading => false,
-        Phase::ReadEnded => false,
-    }
-}
-
-// One byte is over when it is there; endless bytes go on.
-fn phase_after_content(phase: Phase) -> Phase
-    ensures { λ r. ⌜ r ≡ phaseAfterContent phase ⌝ }
-{
-    match phase {
-        Phase::Idle => phase,
-        Phase::AddressAwaited => phase,
-        Phase::Ignoring => phase,
-        Phase::ControlAwaited => phase,
-        Phase::OneByte(_) => Phase::ControlAwaited,
-        Phase::EndlessBytes(_) => phase,
-        Phase::Reading => phase,
-        Phase::ReadEnded => phase,
     }
 }
 
@@ -117,10 +38,10 @@ fn on_address(byte: u8, chip: Chip) -> Stepped
     ensures { λ r. ⌜ r .answer ≡ acknowledge (isAddressed (chip .pins) byte) ⌝ }
     ensures { λ r. ⌜ r .chip ≡ inPhase chip (phaseAfterAddress (isAddressed (chip .pins) byte) byte) ⌝ }
 {
-    let matched = is_addressed(chip.pins, byte);
+    let matched = byte::is_addressed(chip.pins, byte);
     Stepped {
         answer: acknowledge(matched),
-        chip: chip.in_phase(phase_after_address(matched, byte)),
+        chip: chip.in_phase(byte::phase_after_address(matched, byte)),
     }
 }
 
@@ -136,7 +57,7 @@ fn on_plain_byte(byte: u8, chip: Chip) -> Stepped
         Phase::Ignoring => not_acknowledged(chip),
         Phase::ControlAwaited => Stepped {
             answer: Answer::Acknowledged,
-            chip: controlled(chip, byte),
+            chip: byte::controlled(chip, byte),
         },
         // these two await content
         Phase::OneByte(_) => not_acknowledged(chip),
@@ -181,9 +102,9 @@ pub fn on_byte(byte: u8, number: u64, chip: Chip, memory: &mut [u8], writers: &m
         ≡ onByte (chip .phase) byte number (state chip (now (memory .entry)) (now (writers .entry))) ⌝ }
 {
     let phase = chip.phase;
-    if awaits_content(phase) {
+    if byte::awaits_content(phase) {
         let rs = phase.rs();
-        let next = phase_after_content(phase);
+        let next = byte::phase_after_content(phase);
         return content(rs, next, byte, number, chip, memory, writers);
     }
     on_plain_byte(byte, chip)

@@ -3,7 +3,6 @@ pub mod answer;
 mod apply;
 mod byte;
 mod event;
-mod other;
 mod refusal;
 pub mod run;
 mod sequence;

@@ -17,7 +17,8 @@ use Rattle.engine.specs.declared.answer.Answer.the-variants.{Refused, Nothing, 
 use Rattle.engine.specs.declared.event.Event.{Event}
 use Rattle.engine.specs.declared.event.Event.the-variants.{Byte, Start, Stop, ReadAcknowledged, ReadNotAcknowledged, Reset, Sensor, Unlisted}
 use Rattle.engine.specs.Event.{eventOf, numberOf, isAcknowledged}
-use Rattle.engine.specs.Step.{After, acknowledge, controlled, pulsed, sensed, contentOf, onByte, applied, accepted, counted, refusalOf, stepOf}
+use Rattle.phases.specs.Changes.{controlled, pulsed, sensed}
+use Rattle.engine.specs.Step.{After, acknowledge, contentOf, onByte, applied, accepted, counted, refusalOf, stepOf}
 use Rattle.engine.specs.Run.{runOf}
 use Rattle.engine.proofs.Refusals.{accepts}
 use Rattle.chip.specs.LastWriter.{before, LastWriter}

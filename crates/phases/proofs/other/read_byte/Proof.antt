@@ -1,9 +1,9 @@
-use Rattle.engine.specs.Step.{readByte}
+use Rattle.phases.specs.Changes.{readByte}
 use mathlib.Core.Bool.{Bool, _&&_, not}
 use mathlib.Core.Path.{sym, ap, _∙_}
 use borrow.Author.Needs.{needs}
-use Rattle.engine.proofs.other.read_byte.Statement.{statement}
-use Rattle.engine.proofs.other.read_byte.Tie as tie
+use Rattle.phases.proofs.other.read_byte.Statement.{statement}
+use Rattle.phases.proofs.other.read_byte.Tie as tie
 
 is-reading-requires : tie.Need-is-reading-requires
 is-reading-requires c κs = search needs

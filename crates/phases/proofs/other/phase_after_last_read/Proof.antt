@@ -1,8 +1,8 @@
 use mathlib.Core.Path.{sym, _∙_}
-use Rattle.engine.specs.Phases.{phaseAfterLastRead}
+use Rattle.phases.specs.Phases.{phaseAfterLastRead}
 use borrow.Author.Needs.{needs}
-use Rattle.engine.proofs.other.phase_after_last_read.Statement.{statement}
-use Rattle.engine.proofs.other.phase_after_last_read.Tie as tie
+use Rattle.phases.proofs.other.phase_after_last_read.Statement.{statement}
+use Rattle.phases.proofs.other.phase_after_last_read.Tie as tie
 
 is-reading-requires : tie.Need-is-reading-requires
 is-reading-requires c κs = search needs

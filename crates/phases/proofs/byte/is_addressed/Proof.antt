@@ -1,8 +1,8 @@
-use Rattle.engine.specs.Phases.{isAddressed}
+use Rattle.phases.specs.Phases.{isAddressed}
 use mathlib.Core.Path.{refl}
 use borrow.Author.Needs.{needs}
-use Rattle.engine.proofs.byte.is_addressed.Statement.{statement}
-use Rattle.engine.proofs.byte.is_addressed.Tie as tie
+use Rattle.phases.proofs.byte.is_addressed.Statement.{statement}
+use Rattle.phases.proofs.byte.is_addressed.Tie as tie
 
 cast-result : tie.Need-cast-result
 cast-result c = search needs

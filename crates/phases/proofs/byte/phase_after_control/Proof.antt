@@ -1,7 +1,7 @@
 use borrow.Author.Tests.{eq-eqb, ne-eqb}
 use borrow.Author.Needs.{needs}
-use Rattle.engine.proofs.byte.phase_after_control.Statement.{statement}
-use Rattle.engine.proofs.byte.phase_after_control.Tie as tie
+use Rattle.phases.proofs.byte.phase_after_control.Statement.{statement}
+use Rattle.phases.proofs.byte.phase_after_control.Tie as tie
 
 rs-of-requires : tie.Need-rs-of-requires
 rs-of-requires c κs = search needs

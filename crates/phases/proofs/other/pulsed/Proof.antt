@@ -1,7 +1,7 @@
-use Rattle.engine.specs.Step.{pulsed}
+use Rattle.phases.specs.Changes.{pulsed}
 use borrow.Author.Needs.{needs}
-use Rattle.engine.proofs.other.pulsed.Statement.{statement}
-use Rattle.engine.proofs.other.pulsed.Tie as tie
+use Rattle.phases.proofs.other.pulsed.Statement.{statement}
+use Rattle.phases.proofs.other.pulsed.Tie as tie
 
 reset-requires : tie.Need-reset-requires
 reset-requires c κs = search needs

@@ -1,6 +1,6 @@
-use Rattle.engine.specs.Step.{sensed}
-use Rattle.engine.proofs.other.sensed.Statement.{statement}
-use Rattle.engine.proofs.other.sensed.Tie as tie
+use Rattle.phases.specs.Changes.{sensed}
+use Rattle.phases.proofs.other.sensed.Statement.{statement}
+use Rattle.phases.proofs.other.sensed.Tie as tie
 
 returns : tie.Need-returns
 unfolding sensed

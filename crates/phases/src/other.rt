@@ -1,7 +1,7 @@
 // The events that touch no memory: reads, reset pulse, sensor reading.
 ghost use mathlib.Core.Path.{_≡_};
-ghost use Rattle.engine.specs.Phases.{isReading, phaseAfterLastRead};
-ghost use Rattle.engine.specs.Step.{readByte, sensed, pulsed};
+ghost use Rattle.phases.specs.Changes.{readByte, sensed, pulsed};
+ghost use Rattle.phases.specs.Phases.{isReading, phaseAfterLastRead};
 use registers::Chip;
 use registers::Phase;
 

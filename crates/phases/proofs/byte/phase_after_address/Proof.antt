@@ -1,8 +1,8 @@
-use Rattle.engine.specs.Phases.{phaseAfterAddress}
+use Rattle.phases.specs.Phases.{phaseAfterAddress}
 use borrow.Author.Tests.{not-true, not-false}
 use borrow.Author.Tests.{eq-eqb, ne-eqb}
-use Rattle.engine.proofs.byte.phase_after_address.Statement.{statement}
-use Rattle.engine.proofs.byte.phase_after_address.Tie as tie
+use Rattle.phases.proofs.byte.phase_after_address.Statement.{statement}
+use Rattle.phases.proofs.byte.phase_after_address.Tie as tie
 
 returns : tie.Need-returns
 unfolding phaseAfterAddress

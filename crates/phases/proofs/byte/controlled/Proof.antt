@@ -1,7 +1,7 @@
-use Rattle.engine.specs.Step.{controlled}
+use Rattle.phases.specs.Changes.{controlled}
 use borrow.Author.Needs.{needs}
-use Rattle.engine.proofs.byte.controlled.Statement.{statement}
-use Rattle.engine.proofs.byte.controlled.Tie as tie
+use Rattle.phases.proofs.byte.controlled.Statement.{statement}
+use Rattle.phases.proofs.byte.controlled.Tie as tie
 
 phase-after-control-requires : tie.Need-phase-after-control-requires
 phase-after-control-requires c κs = search needs
