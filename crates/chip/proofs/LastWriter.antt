@@ -24,7 +24,7 @@ use Rattle.engine.specs.Step.{onByte, applied, accepted, counted}
 use Rattle.engine.proofs.Allowed.{accepted-fit, fit-place}
 use Rattle.engine.proofs.Events.{byte-event, other-event}
 use Rattle.chip.specs.Effects.{displayed}
-use Rattle.chip.specs.LastWriter.{StoredAt, before, Untouched, Written, PlaceAfter}
+use Rattle.chip.specs.LastWriter.{StoredAt, before, NoneStored, LastStored, byteOf, Untouched, Written, PlaceAfter}
 use Rattle.chip.specs.Phases.{awaitsData}
 use Rattle.chip.specs.Promised.{After, Fit, Outcome, refusalOf, stepOf, placeOf, storedOf}
 use Rattle.chip.proofs.Events.{display-step}
@@ -184,25 +184,19 @@ module _ (e : ℕ) (es : List ℕ) (s end : State) (n k : ℕ) (up : stepOf e s 
   then-written : Written es n (stepOf e s .state) end k → Written (e ∷ es) (suc n) s end k
   then-written w =
       record {
-        event = suc (w .event);
-        is-done = suc-le-suc (w .is-done);
-        is-stored = w .is-stored;
-        is-last = later;
+        last = record { event = suc (w .last .event); is-done = suc-le-suc (w .last .is-done); is-stored = w .last .is-stored; is-last = later };
         byte = w .byte;
         writer = w .writer ∙ omega arith;
       }
     where
-      later : (j : ℕ) → suc (w .event) < j → j < suc n → StoredAt (getD (e ∷ es) j 0) (before (e ∷ es) j s) k → ⊥
+      later : (j : ℕ) → suc (w .last .event) < j → j < suc n → StoredAt (getD (e ∷ es) j 0) (before (e ∷ es) j s) k → ⊥
       later zero a b l = omega arith
-      later (suc j) a b l = w .is-last j (le-of-suc-le-suc a) (le-of-suc-le-suc b) l
+      later (suc j) a b l = w .last .is-last j (le-of-suc-le-suc a) (le-of-suc-le-suc b) l
 
   first-written : Stores e s (stepOf e s .state) k → Untouched es n (stepOf e s .state) end k → Written (e ∷ es) (suc n) s end k
   first-written l u =
       record {
-        event = zero;
-        is-done = omega arith;
-        is-stored = l .is-stored;
-        is-last = later;
+        last = record { event = zero; is-done = omega arith; is-stored = l .is-stored; is-last = later };
         byte = u .byte ∙ l .byte;
         writer = u .writer ∙ l .writer ∙ omega arith;
       }
@@ -214,7 +208,7 @@ module _ (e : ℕ) (es : List ℕ) (s end : State) (n k : ℕ) (up : stepOf e s 
   still-untouched : Passed e s (stepOf e s .state) k → Untouched es n (stepOf e s .state) end k → Untouched (e ∷ es) (suc n) s end k
   still-untouched p u = record { none = never; byte = u .byte ∙ p .byte; writer = u .writer ∙ p .writer }
     where
-      never : (i : ℕ) → i < suc n → StoredAt (getD (e ∷ es) i 0) (before (e ∷ es) i s) k → ⊥
+      never : NoneStored (e ∷ es) (suc n) s k
       never zero b l = p .misses l
       never (suc i) b l = u .none i (le-of-suc-le-suc b) l
 
@@ -225,6 +219,19 @@ module _ (e : ℕ) (es : List ℕ) (s end : State) (n k : ℕ) (up : stepOf e s 
   joined first (inr w) = inr (then-written w)
   joined (inl l) (inl u) = inr (first-written l u)
   joined (inr p) (inl u) = inl (still-untouched p u)
+
+-- two that are both the last are the same
+module _ {es : List ℕ} {n : ℕ} {s : State} {k : ℕ} (a b : LastStored es n s k) where
+  pub same-last : a .event ≡ b .event
+  same-last = go (decLt (a .event) (b .event)) (decLt (b .event) (a .event))
+    where
+      go : Dec (a .event < b .event) → Dec (b .event < a .event) → a .event ≡ b .event
+      go (yes l) r = absurd (a .is-last (b .event) l (b .is-done) (b .is-stored))
+      go (no l) (yes r) = absurd (b .is-last (a .event) r (a .is-done) (a .is-stored))
+      go (no l) (no r) = omega arith
+
+  pub same-byte : byteOf a ≡ byteOf b
+  same-byte = ap (λ (i : ℕ). storedOf (before es i s .chip .registers) (getD es i 0)) same-last
 
 -- nothing was done
 pub idle : (es : List ℕ) (s : State) (k : ℕ) → Untouched es 0 s s k

@@ -68,7 +68,7 @@ module _ (text : List ℕ) (end : State) (r : Replayed text zeros zeros end) (c 
             writer = u .writer ∙ zero-here ∙ sym (never .no-event);
             stored = u .byte ∙ zero-here ∙ sym (never .no-byte);
           }
-      go (inr w) = absurd (never .none-stored (w .event) (w .is-done) (w .is-stored))
+      go (inr w) = absurd (never .none-stored (w .last .event) (w .last .is-done) (w .last .is-stored))
   so-there (inr n) =
       let h = listed text end r c n in
       record { column-there = h .column-there; bank-there = h .bank-there; writer = h .writer; stored = h .stored }

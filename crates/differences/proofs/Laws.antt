@@ -171,7 +171,8 @@ marked-comparison a b m n u v memory writers x y registers =
     one-register : chosenFrom (registerDiffers (a .registers) (b .registers)) (registerPairAt (a .registers) (b .registers)) 0 29 ≡ registerPair 9 5 6 ∷ []
     one-register =
         one-chosen (registerDiffers (a .registers) (b .registers)) (registerPairAt (a .registers) (b .registers)) 29 0 9 (omega arith) (omega arith)
-        (so-not-same (getD (a .registers) 9 0) (getD (b .registers) 9 0) (λ z. omega (arith, z, x, y))) (λ q away. so-same (getD (a .registers) q 0) (getD (b .registers) q 0) (registers q away))
+        (so-not-same (getD (a .registers) 9 0) (getD (b .registers) 9 0) (λ z. omega (arith, z, x, y)))
+        (λ q away. so-same (getD (a .registers) q 0) (getD (b .registers) q 0) (registers q away))
         ∙ rw (x, y)
 
 -- ---- refusals

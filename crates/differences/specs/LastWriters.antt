@@ -2,11 +2,11 @@
 use mathlib.Core.List.{List, _++_, List·Memᴰ}
 use mathlib.Core.Logic.{_⊎_, _↔_}
 use mathlib.Core.Path.{_≡_}
-use Prim.Native.Nat.{ℕ, _+_, _*_, _≤_, _<_}
-use lib.ListN.{getD, length}
+use Prim.Native.Nat.{ℕ, _+_, _*_, _≤_}
+use lib.ListN.{length}
 use Rattle.registers.specs.declared.Registers.{Registers}
 use Rattle.registers.specs.Record.{values}
-use Rattle.chip.specs.LastWriter.{StoredAt, before}
+use Rattle.chip.specs.LastWriter.{NoneStored}
 use Rattle.print.specs.Chosen.{linesOf, InOrder}
 use Rattle.capture.specs.Cells.{start}
 use Rattle.listing.specs.Listing.{Cell}
@@ -20,7 +20,7 @@ pub record NeverWritten (pins : ℕ) (es : List ℕ) (c : Cell) : Type 0 where
   pub bank-there : c .bank ≤ 16
   pub no-event : c .event ≡ 0
   pub no-byte : c .byte ≡ 0
-  pub none-stored : (j : ℕ) → j < length es → StoredAt (getD es j 0) (before es j (start pins)) (101 * c .bank + c .column) → ⊥
+  pub none-stored : NoneStored es (length es) (start pins) (101 * c .bank + c .column)
 
 -- what a capture left in a cell
 abbrev pub LeftBy : ℕ → List ℕ → Cell → Type 0

@@ -324,18 +324,19 @@ module _ (es : List ℕ) (s : State) (k : ℕ) (h : Stands s) where
         writer = writer-number ∙ u .writer;
       }
   from-chip (inr w) =
-      let i = w .event in
+      let last = w .last in
+      let i = last .event in
       inr
       record {
         event = i;
-        is-done = omega (arith, did, w .is-done);
+        is-done = omega (arith, did, last .is-done);
         stored =
-            subst (λ (b : Buffers). StoredByCall (getD es i 0) b k) (sym (upon i (w .is-done) .0))
-            (call-stored (getD es i 0) (before es i s) k (upon i (w .is-done) .1) (w .is-stored));
-        is-last = λ j later l st. w .is-last j later (omega (arith, did)) (stored-by-chip j (omega (arith, did)) st);
+            subst (λ (b : Buffers). StoredByCall (getD es i 0) b k) (sym (upon i (last .is-done) .0))
+            (call-stored (getD es i 0) (before es i s) k (upon i (last .is-done) .1) (last .is-stored));
+        is-last = λ j later l st. last .is-last j later (omega (arith, did)) (stored-by-chip j (omega (arith, did)) st);
         byte =
             memory-byte ∙ w .byte
-            ∙ ap (λ (b : Buffers). storedOf (ofValues (b .words)) (getD es i 0)) (sym (upon i (w .is-done) .0));
+            ∙ ap (λ (b : Buffers). storedOf (ofValues (b .words)) (getD es i 0)) (sym (upon i (last .is-done) .0));
         writer = writer-number ∙ w .writer;
       }
 

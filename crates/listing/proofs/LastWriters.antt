@@ -1,16 +1,14 @@
 -- The cells of a replayed capture's listing name its last writers.
 use mathlib.Core.List.{List}
 use mathlib.Core.Logic.{inl, inr}
-use mathlib.Core.Path.{_≡_, sym, _∙_, subst}
-use Prim.Native.Nat.{ℕ, _+_, _*_, _<_}
-use native.Mathlib.Decide.{decLt}
+use mathlib.Core.Path.{sym, _∙_}
+use Prim.Native.Nat.{ℕ, _+_, _*_}
 use native.Mathlib.Nat.{zero-add}
 use native.Mathlib.Omega.{arith}
-use lib.ListN.{getD, length, getD-replicate}
+use lib.ListN.{getD-replicate}
 use Rattle.registers.specs.State.{State, places}
-use Rattle.chip.specs.LastWriter.{Written, before}
-use Rattle.chip.specs.Promised.{storedOf}
-use Rattle.capture.specs.Cells.{zeros, start, CellAfter}
+use Rattle.chip.proofs.LastWriter.{same-last, same-byte}
+use Rattle.capture.specs.Cells.{zeros, CellAfter}
 use Rattle.capture.specs.Where.{Replayed}
 use Rattle.capture.proofs.Laws.{last-writers}
 use Rattle.listing.specs.LastWriters.{NamesLastWriter}
@@ -30,39 +28,21 @@ module _ (text : List ℕ) (end : State) (r : Replayed text zeros zeros end) (c 
           record {
             column-there = h .column-there;
             bank-there = h .bank-there;
-            last = w .event;
-            numbered = sym (h .writer) ∙ w .writer ∙ zero-add (w .event + 1);
-            is-event = w .is-done;
-            is-stored = w .is-stored;
-            none-after = w .is-last;
+            last = w .last;
+            numbered = sym (h .writer) ∙ w .writer ∙ zero-add (w .last .event + 1);
             byte = sym (h .stored) ∙ w .byte;
           }
-
-  -- two that are both the last are the same
-  same-last :
-      (w : Written (r .events) (length (r .events)) (start (r .pins)) end (101 * c .bank + c .column)) (n : NamesLastWriter (r .pins) (r .events) c)
-      → w .event ≡ n .last
-  same-last w n = go (decLt (w .event) (n .last)) (decLt (n .last) (w .event))
-    where
-      go : Dec (w .event < n .last) → Dec (n .last < w .event) → w .event ≡ n .last
-      go (yes a) b = absurd (w .is-last (n .last) a (n .is-event) (n .is-stored))
-      go (no a) (yes b) = absurd (n .none-after (w .event) b (w .is-done) (w .is-stored))
-      go (no a) (no b) = omega arith
 
   pub listed : NamesLastWriter (r .pins) (r .events) c → WrittenCell (end .memory) (end .writers) c
   listed n = go (last-writers text end r (101 * c .bank + c .column))
     where
       go : CellAfter (r .pins) (r .events) end (101 * c .bank + c .column) → WrittenCell (end .memory) (end .writers) c
-      go (inl u) = absurd (u .none (n .last) (n .is-event) (n .is-stored))
+      go (inl u) = absurd (u .none (n .last .event) (n .last .is-done) (n .last .is-stored))
       go (inr w) =
-          let same : w .event ≡ n .last = same-last w n in
           record {
             column-there = n .column-there;
             bank-there = n .bank-there;
             written = λ e. omega (arith, n .numbered, e);
-            writer = w .writer ∙ (omega (arith, n .numbered, same));
-            stored =
-                w .byte
-                ∙ subst (λ (k : ℕ). storedOf (before (r .events) k (start (r .pins)) .chip .registers) (getD (r .events) k 0) ≡ c .byte) (sym same)
-                (sym (n .byte));
+            writer = w .writer ∙ omega (arith, n .numbered, same-last (w .last) (n .last));
+            stored = w .byte ∙ same-byte (w .last) (n .last) ∙ sym (n .byte);
           }

@@ -33,4 +33,4 @@ module _ (pins : ℕ) (es : List ℕ) (c : Cell) (named : NamesLastWriter pins e
   -- an event named after which another byte was stored there
   pub not-an-earlier-one :
       (j : ℕ) → c .event < j + 1 → j < length es → StoredAt (getD es j 0) (before es j (start pins)) (101 * c .bank + c .column) → ⊥
-  not-an-earlier-one j l h stored = named .none-after j (omega (arith, named .numbered)) h stored
+  not-an-earlier-one j l h stored = named .last .is-last j (omega (arith, named .numbered)) h stored

@@ -2,10 +2,9 @@
 use mathlib.Core.List.{List, _++_, List·Memᴰ}
 use mathlib.Core.Logic.{_↔_}
 use mathlib.Core.Path.{_≡_}
-use Prim.Native.Nat.{ℕ, _+_, _*_, _≤_, _<_}
-use lib.ListN.{getD, length}
-use Rattle.chip.specs.LastWriter.{StoredAt, before}
-use Rattle.chip.specs.Promised.{storedOf}
+use Prim.Native.Nat.{ℕ, _+_, _*_, _≤_}
+use lib.ListN.{length}
+use Rattle.chip.specs.LastWriter.{LastStored, byteOf}
 use Rattle.capture.specs.Cells.{start}
 use Rattle.print.specs.Chosen.{InOrder}
 use Rattle.listing.specs.Listing.{Cell, header, cellsText}
@@ -15,13 +14,9 @@ use Rattle.listing.specs.Order.{Before}
 pub record NamesLastWriter (pins : ℕ) (es : List ℕ) (c : Cell) : Type 0 where
   pub column-there : c .column ≤ 100
   pub bank-there : c .bank ≤ 16
-  -- its place in the list of events, from 0
-  pub last : ℕ
-  pub numbered : c .event ≡ last + 1
-  pub is-event : last < length es
-  pub is-stored : StoredAt (getD es last 0) (before es last (start pins)) (101 * c .bank + c .column)
-  pub none-after : (j : ℕ) → last < j → j < length es → StoredAt (getD es j 0) (before es j (start pins)) (101 * c .bank + c .column) → ⊥
-  pub byte : c .byte ≡ storedOf (before es last (start pins) .chip .registers) (getD es last 0)
+  pub last : LastStored es (length es) (start pins) (101 * c .bank + c .column)
+  pub numbered : c .event ≡ last .event + 1
+  pub byte : c .byte ≡ byteOf last
 
 -- the text is the header and a line for each cell that names its last writer, and no others, by bank, then column
 pub record ListsLastWriters (pins : ℕ) (es text : List ℕ) : Type 0 where
