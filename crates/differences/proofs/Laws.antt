@@ -1,5 +1,6 @@
 -- What is promised of a comparison, in one place: read this file first, then specs/Which.antt and specs/LastWriters.antt. The work stands in the files
 -- beside it.
+use mathlib.Core.Bool.{true}
 use mathlib.Core.List.{List, [], _∷_, _++_, map, append-nil, List·Memᴰ, List·Memᴰ·not-nil}
 use mathlib.Core.Logic.{inl, _↔_}
 use mathlib.Core.Path.{_≡_, refl, sym, ap, _∙_, subst}
@@ -17,7 +18,7 @@ use Rattle.print.proofs.Laws.{number-says, refused-by-1}
 use Rattle.capture.specs.declared.End.{End}
 use Rattle.capture.specs.Cells.{zeros}
 use Rattle.capture.specs.Feeding.{meaning}
-use Rattle.capture.specs.Replay.{Replay, refusedAt, replayed, replayOf}
+use Rattle.capture.specs.Replay.{Replay, refusedBy, refusedAt, replayed, replayOf}
 use Rattle.capture.specs.Where.{Replayed}
 use Rattle.capture.proofs.Laws.{is-replayed, end-fit}
 use Rattle.listing.specs.Listing.{refusedOf, listingNumber}
@@ -140,26 +141,44 @@ pub text-exchanged :
 unfolding differencesOf
 text-exchanged a b = rw (cells-exchanged (a .cells) (b .cells), registers-exchanged (a .registers) (b .registers))
 
--- ---- the text of two captures of which the second has one display byte more: it is stored in column 5 of bank 2, as event 10, and X moves on
+-- ---- the text to the byte
+
+-- two cells of different numbers
+pub marked-cell-lines :
+    linesOf cellLine (cellPair 1 2 3 4 5 6 ∷ cellPair 100 16 255 63 4294967297 10 ∷ [])
+    ≡ bytes "1\t2\t3\t4\t5\t6\n100\t16\t255\t63\t4294967297\t10\n"
+unfolding decimalOf
+marked-cell-lines = refl
+
+-- all 29 registers, each 1 at the first end and 2 at the second
+pub marked-register-lines :
+    linesOf registerLine (chosenFrom (λ (k : ℕ). true) (λ (k : ℕ). registerPair k 1 2) 0 29)
+    ≡ bytes "h\t1\t2\ndo\t1\t2\npd\t1\t2\nv\t1\t2\nd\t1\t2\ne\t1\t2\nmx\t1\t2\nmy\t1\t2\nps\t1\t2\nx\t1\t2\n"
+    ++ bytes "y\t1\t2\nbs\t1\t2\nbsh\t1\t2\ndp\t1\t2\nprs\t1\t2\nhve\t1\t2\ns\t1\t2\ntc\t1\t2\nsm\t1\t2\nvop\t1\t2\n"
+    ++ bytes "gr\t1\t2\ngs0\t1\t2\ngs1\t1\t2\ngs2\t1\t2\ngs3\t1\t2\ndof\t1\t2\ndm\t1\t2\nec\t1\t2\noc\t1\t2\n"
+unfolding decimalOf
+marked-register-lines = refl
+
+-- two ends that differ in one cell, column 5 of bank 2, and in X
 
 pub marked-comparison :
     (a b : Compared)
-    → getD (a .cells .memory) (101 * 2 + 5) 0 ≡ 0
+    → getD (a .cells .memory) (101 * 2 + 5) 0 ≡ 21
     → getD (b .cells .memory) (101 * 2 + 5) 0 ≡ 167
-    → getD (a .cells .writers) (101 * 2 + 5) 0 ≡ 0
+    → getD (a .cells .writers) (101 * 2 + 5) 0 ≡ 9
     → getD (b .cells .writers) (101 * 2 + 5) 0 ≡ 10
     → ((k : ℕ) → (k ≡ 101 * 2 + 5 → ⊥) → getD (a .cells .memory) k 0 ≡ getD (b .cells .memory) k 0)
     → ((k : ℕ) → (k ≡ 101 * 2 + 5 → ⊥) → getD (a .cells .writers) k 0 ≡ getD (b .cells .writers) k 0)
     → getD (a .registers) 9 0 ≡ 5
     → getD (b .registers) 9 0 ≡ 6
     → ((k : ℕ) → (k ≡ 9 → ⊥) → getD (a .registers) k 0 ≡ getD (b .registers) k 0)
-    → differencesOf a b ≡ bytes "column\tbank\tfirst byte\tsecond byte\tfirst event\tsecond event\n5\t2\t0\t167\t0\t10\nx\t5\t6\n"
+    → differencesOf a b ≡ bytes "column\tbank\tfirst byte\tsecond byte\tfirst event\tsecond event\n5\t2\t21\t167\t9\t10\nx\t5\t6\n"
 unfolding differencesOf cellsThatDiffer registersThatDiffer decimalOf
 marked-comparison a b m n u v memory writers x y registers =
     ap (λ (cs : List CellPair). header ++ (linesOf cellLine cs ++ linesOf registerLine (registersThatDiffer (a .registers) (b .registers)))) (cells places refl)
-    ∙ ap (λ (rs : List RegisterPair). header ++ (cellLine (cellPair 5 2 0 167 0 10) ++ linesOf registerLine rs)) one-register
+    ∙ ap (λ (rs : List RegisterPair). header ++ (cellLine (cellPair 5 2 21 167 9 10) ++ linesOf registerLine rs)) one-register
   where
-    cells : (t : ℕ) → t ≡ 1717 → chosenFrom (cellDiffers (a .cells) (b .cells)) (cellPairAt (a .cells) (b .cells)) 0 t ≡ cellPair 5 2 0 167 0 10 ∷ []
+    cells : (t : ℕ) → t ≡ 1717 → chosenFrom (cellDiffers (a .cells) (b .cells)) (cellPairAt (a .cells) (b .cells)) 0 t ≡ cellPair 5 2 21 167 9 10 ∷ []
     cells t e =
         one-chosen (cellDiffers (a .cells) (b .cells)) (cellPairAt (a .cells) (b .cells)) t 0 207 (omega arith) (omega arith)
         (so-one-differs (getD (a .cells .memory) 207 0) (getD (b .cells .memory) 207 0) (getD (a .cells .writers) 207 0) (getD (b .cells .writers) 207 0)
@@ -264,6 +283,25 @@ module _ (m w n v out : List ℕ) (e f : End) where
   pub comparison-not-lent : (BothLent (memories m w) (memories n v) → ⊥) → comparisonCall e m w f n v out ≡ output (Refused 1) out
   unfolding comparisonCall
   comparison-not-lent none = rw (not-both (memories m w) (memories n v) none)
+
+  -- both are replayed, on whatever memories
+  pub both-replayed :
+      BothLent (memories m w) (memories n v) → (s t : State) → meaning e m w ≡ replayed s → meaning f n v ≡ replayed t
+      → comparisonCall e m w f n v out ≡ wholeText 0 (differencesOf (comparedOf s) (comparedOf t)) out
+  unfolding comparisonCall
+  both-replayed lent s t is is′ = rw (both-pass (memories m w) (memories n v) lent, is, is′)
+
+  -- one is refused by a number, as a state of a capture that is not allowed is: that number
+  pub first-refused-by :
+      BothLent (memories m w) (memories n v) → (k : ℕ) (s : State) → meaning e m w ≡ refusedBy k s → comparisonCall e m w f n v out ≡ output (Refused k) out
+  unfolding comparisonCall
+  first-refused-by lent k s is = rw (both-pass (memories m w) (memories n v) lent, is)
+
+  pub second-refused-by :
+      BothLent (memories m w) (memories n v) → (k : ℕ) (s t : State) → meaning e m w ≡ replayed s → meaning f n v ≡ refusedBy k t
+      → comparisonCall e m w f n v out ≡ output (Refused k) out
+  unfolding comparisonCall
+  second-refused-by lent k s t is is′ = rw (both-pass (memories m w) (memories n v) lent, is, is′)
 
   module _ (lent : BothLent (memories m w) (memories n v)) (line : ℕ) where
     -- the first is refused at a line: that alone, whatever the second is

@@ -83,6 +83,11 @@ pub refused-number-exactly :
 unfolding refusedCall
 refused-number-exactly file e n s out same = rw same (number-says 10 (λ z. omega arith) (refusedOf file n) out)
 
+-- that line to the byte, of a capture that is bad at line 13, alone and with its file in front
+pub marked-refusals : (refusedOf [] 13 ≡ bytes "refused\t13\n") × (refusedOf (bytes "2\t") 13 ≡ bytes "refused\t2\t13\n")
+unfolding refusedOf decimalOf
+marked-refusals = (refl, refl)
+
 -- the listing that document 01 gives whole: of all cells only that in column 5 of bank 2 has a writer, event 10, and its byte is 167
 pub marked-listing :
     (memory writers : List ℕ) → getD memory (101 * 2 + 5) 0 ≡ 167 → getD writers (101 * 2 + 5) 0 ≡ 10
