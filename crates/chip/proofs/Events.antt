@@ -1,5 +1,5 @@
 -- What each kind of event does, where it is not refused.
-use mathlib.Core.Bool.{true, false, not}
+use mathlib.Core.Bool.{true, false}
 use mathlib.Core.Path.{_≡_, refl, ap, _∙_}
 use Prim.Native.Nat.{ℕ, _+_, _<_}
 use lib.ListN.{set}

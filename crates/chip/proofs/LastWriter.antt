@@ -17,14 +17,13 @@ use Rattle.registers.proofs.Below.{true-false}
 use Rattle.engine.specs.declared.event.Event.{Event}
 use Rattle.engine.specs.declared.event.Event.the-variants.{Byte, Start, Stop, ReadAcknowledged, ReadNotAcknowledged, Reset, Sensor, Unlisted}
 use Rattle.engine.specs.Event.{eventOf, isByte, isAcknowledged}
-use Rattle.engine.specs.Run
 use Rattle.engine.specs.Run.{unlessStopped, runFrom}
 use Rattle.phases.specs.Changes.{controlled, pulsed, sensed}
 use Rattle.engine.specs.Step.{onByte, applied, accepted, counted}
 use Rattle.engine.proofs.Allowed.{accepted-fit, fit-place}
 use Rattle.engine.proofs.Events.{byte-event, other-event}
 use Rattle.chip.specs.Effects.{displayed}
-use Rattle.chip.specs.LastWriter.{StoredAt, before, NoneStored, LastStored, byteOf, Untouched, Written, PlaceAfter}
+use Rattle.chip.specs.LastWriter.{StoredAt, before, NoneStored, LastStored, storedByte, Untouched, Written, PlaceAfter}
 use Rattle.chip.specs.Phases.{awaitsData}
 use Rattle.chip.specs.Promised.{After, Fit, Outcome, refusalOf, stepOf, placeOf, storedOf}
 use Rattle.chip.proofs.Events.{display-step}
@@ -230,7 +229,7 @@ module _ {es : List ℕ} {n : ℕ} {s : State} {k : ℕ} (a b : LastStored es n 
       go (no l) (yes r) = absurd (b .is-last (a .event) r (a .is-done) (a .is-stored))
       go (no l) (no r) = omega arith
 
-  pub same-byte : byteOf a ≡ byteOf b
+  pub same-byte : storedByte a ≡ storedByte b
   same-byte = ap (λ (i : ℕ). storedOf (before es i s .chip .registers) (getD es i 0)) same-last
 
 -- nothing was done

@@ -22,7 +22,7 @@ before [] i s = s
 before (e ∷ es) zero s = s
 before (e ∷ es) (suc i) s = before es i (stepOf e s .state)
 
--- none of the first n events was stored at k
+-- no event among the first n was stored at k
 abbrev pub NoneStored : List ℕ → ℕ → State → ℕ → Type 0
 NoneStored es n s k = (i : ℕ) → i < n → StoredAt (getD es i 0) (before es i s) k → ⊥
 
@@ -34,11 +34,11 @@ pub record LastStored (es : List ℕ) (n : ℕ) (s : State) (k : ℕ) : Type 0 w
   pub is-stored : StoredAt (getD es event 0) (before es event s) k
   pub is-last : (j : ℕ) → event < j → j < n → StoredAt (getD es j 0) (before es j s) k → ⊥
 
--- the byte that it stored
-abbrev pub byteOf : {es : List ℕ} {n : ℕ} {s : State} {k : ℕ} → LastStored es n s k → ℕ
-byteOf {es} {n} {s} l = storedOf (before es (l .event) s .chip .registers) (getD es (l .event) 0)
+-- the byte that it left there
+abbrev pub storedByte : {es : List ℕ} {n : ℕ} {s : State} {k : ℕ} → LastStored es n s k → ℕ
+storedByte {es} {n} {s} l = storedOf (before es (l .event) s .chip .registers) (getD es (l .event) 0)
 
--- no event was stored at k: byte and writer are as they were
+-- none of the first n events was stored at k: byte and writer are as they were
 pub record Untouched (es : List ℕ) (n : ℕ) (s end : State) (k : ℕ) : Type 0 where
   pub none : NoneStored es n s k
   pub byte : getD (end .memory) k 0 ≡ getD (s .memory) k 0
@@ -47,7 +47,7 @@ pub record Untouched (es : List ℕ) (n : ℕ) (s end : State) (k : ℕ) : Type 
 -- the last that was stored at k left its stored byte, and its number: the starting count plus its place in the list from 1
 pub record Written (es : List ℕ) (n : ℕ) (s end : State) (k : ℕ) : Type 0 where
   pub last : LastStored es n s k
-  pub byte : getD (end .memory) k 0 ≡ byteOf last
+  pub byte : getD (end .memory) k 0 ≡ storedByte last
   pub writer : getD (end .writers) k 0 ≡ s .chip .count + (last .event + 1)
 
 -- place k after n events that took s to end

@@ -1,9 +1,9 @@
 -- Document 01, "Numbers given back", 1 to 4: exactly when each refusal of an event comes.
-use mathlib.Core.Bool.{true, false}
+use mathlib.Core.Bool.{false}
 use mathlib.Core.List.{List, [], _∷_}
 use mathlib.Core.Logic.{_⊎_}
 use mathlib.Core.Path.{_≡_}
-use Prim.Native.Nat.{ℕ, zero, suc, _-_, _^_, _≤_}
+use Prim.Native.Nat.{ℕ, _-_, _^_, _≤_}
 use lib.ListN.{length, getD}
 use Rattle.registers.specs.Record.{allowed}
 use Rattle.registers.specs.State.{State, places}

@@ -1,12 +1,11 @@
 -- What it means that an event, or the entry of a run, is not refused.
-use mathlib.Core.Path.{_≡_, sym, _∙_}
+use mathlib.Core.Path.{_≡_}
 use mathlib.Core.Bool.{true, not, _||_}
 use Prim.Native.Nat.{ℕ, _-_, _^_}
 use borrow.Author.Tests.{eqb-true, eqb-false, eq-eqb, not-false}
 use lib.Dec.{eqb}
 use lib.ListN.{length}
-use Rattle.registers.specs.Record.{allowed}
-use Rattle.registers.specs.Refusals.{refuse, _then_, recordRefusal, isListedEvent}
+use Rattle.registers.specs.Refusals.{refuse, recordRefusal, isListedEvent}
 use Rattle.registers.specs.State.{State, places}
 use Rattle.registers.proofs.Refusals.{then-zero, refuse-none, or-none}
 use Rattle.engine.specs.Step.{entryRefusal, eventRefusal, refusalOf, Fit}

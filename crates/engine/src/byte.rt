@@ -10,7 +10,6 @@ ghost use Rattle.phases.specs.Phases.{isAddressed, phaseAfterAddress, awaitsCon
 ghost use Rattle.engine.specs.Step.{after, acknowledge, contentOf, onByte};
 use crate::answer::Answer;
 use crate::step::Stepped;
-use phases::byte;
 use registers::Chip;
 use registers::Phase;
 
@@ -38,10 +37,10 @@ fn on_address(byte: u8, chip: Chip) -> Stepped
     ensures { λ r. ⌜ r .answer ≡ acknowledge (isAddressed (chip .pins) byte) ⌝ }
     ensures { λ r. ⌜ r .chip ≡ inPhase chip (phaseAfterAddress (isAddressed (chip .pins) byte) byte) ⌝ }
 {
-    let matched = byte::is_addressed(chip.pins, byte);
+    let matched = phases::byte::is_addressed(chip.pins, byte);
     Stepped {
         answer: acknowledge(matched),
-        chip: chip.in_phase(byte::phase_after_address(matched, byte)),
+        chip: chip.in_phase(phases::byte::phase_after_address(matched, byte)),
     }
 }
 
@@ -57,7 +56,7 @@ fn on_plain_byte(byte: u8, chip: Chip) -> Stepped
         Phase::Ignoring => not_acknowledged(chip),
         Phase::ControlAwaited => Stepped {
             answer: Answer::Acknowledged,
-            chip: byte::controlled(chip, byte),
+            chip: phases::byte::controlled(chip, byte),
         },
         // these two await content
         Phase::OneByte(_) => not_acknowledged(chip),
@@ -102,9 +101,9 @@ pub fn on_byte(byte: u8, number: u64, chip: Chip, memory: &mut [u8], writers: &m
         ≡ onByte (chip .phase) byte number (state chip (now (memory .entry)) (now (writers .entry))) ⌝ }
 {
     let phase = chip.phase;
-    if byte::awaits_content(phase) {
+    if phases::byte::awaits_content(phase) {
         let rs = phase.rs();
-        let next = byte::phase_after_content(phase);
+        let next = phases::byte::phase_after_content(phase);
         return content(rs, next, byte, number, chip, memory, writers);
     }
     on_plain_byte(byte, chip)

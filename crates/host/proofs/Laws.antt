@@ -1,6 +1,6 @@
 -- The calls of the host are refused exactly when document 01 says, and a refused call changes nothing. (record_words: words and record.)
 use mathlib.Core.Path.{_≡_, refl, sym, ap, _∙_, subst}
-use mathlib.Core.Bool.{Bool, true, false, cond, not, _||_}
+use mathlib.Core.Bool.{Bool, true, false, not, _||_}
 use mathlib.Core.List.{List}
 use mathlib.Core.Logic.{_↔_, inl, inr}
 use Prim.Native.Nat.{ℕ, suc, _+_, _^_, _≤_, _<_}
@@ -25,7 +25,7 @@ use Rattle.record_words.specs.Words.{COUNT, standsFor, chipOf}
 use Rattle.glass.specs.Pixel.{placeAt}
 use Rattle.glass.specs.Answer.{shownNumber}
 use Rattle.glass.specs.Glass as glass
-use Rattle.glass.specs.Glass.{offGlass, ramRowOf, cellOf, shownAt, glassOf}
+use Rattle.glass.specs.Glass.{ramRowOf, cellOf, shownAt, glassOf}
 use Rattle.host.specs.Calls.{noRecordFor, noRecord, stepped, stepCall, stepRefusal, afterStep, entryRefusal, ran, runCall, afterRun}
 use Rattle.host.specs.Compiling.{Compiled, compiled, compileCall}
 use Rattle.host.specs.Playing.{Buffers, PlayedByCalls, DrawnByCalls, LastWriterByCalls}

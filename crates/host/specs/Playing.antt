@@ -79,13 +79,13 @@ pub record StoredByCall (e : ℕ) (b : Buffers) (k : ℕ) : Type 0 where
   pub at-place : placeOf (ofValues (b .words)) ≡ k
 
 -- of the events that the run did none was stored at k: byte and writer are as they were
-pub record NoneStored (es : List ℕ) (b : Buffers) (k : ℕ) : Type 0 where
+pub record UntouchedByCalls (es : List ℕ) (b : Buffers) (k : ℕ) : Type 0 where
   pub none : (i : ℕ) → i < runOn es b .done → StoredByCall (getD es i 0) (uponEvent es i b) k → ⊥
   pub byte : getD (runOn es b .memory) k 0 ≡ getD (b .memory) k 0
   pub writer : getD (runOn es b .writers) k 0 ≡ getD (b .writers) k 0
 
 -- the last that was stored at k left its byte, and its number: the starting count plus its place in the list from 1
-pub record LastStored (es : List ℕ) (b : Buffers) (k : ℕ) : Type 0 where
+pub record WrittenByCalls (es : List ℕ) (b : Buffers) (k : ℕ) : Type 0 where
   pub event : ℕ
   pub is-done : event < runOn es b .done
   pub stored : StoredByCall (getD es event 0) (uponEvent es event b) k
@@ -94,4 +94,4 @@ pub record LastStored (es : List ℕ) (b : Buffers) (k : ℕ) : Type 0 where
   pub writer : getD (runOn es b .writers) k 0 ≡ getD (b .words) COUNT 0 + (event + 1)
 
 abbrev pub LastWriterByCalls : List ℕ → Buffers → ℕ → Type 0
-LastWriterByCalls es b k = NoneStored es b k ⊎ LastStored es b k
+LastWriterByCalls es b k = UntouchedByCalls es b k ⊎ WrittenByCalls es b k

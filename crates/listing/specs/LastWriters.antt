@@ -4,7 +4,7 @@ use mathlib.Core.Logic.{_↔_}
 use mathlib.Core.Path.{_≡_}
 use Prim.Native.Nat.{ℕ, _+_, _*_, _≤_}
 use lib.ListN.{length}
-use Rattle.chip.specs.LastWriter.{LastStored, byteOf}
+use Rattle.chip.specs.LastWriter.{LastStored, storedByte}
 use Rattle.capture.specs.Cells.{start}
 use Rattle.print.specs.Chosen.{InOrder}
 use Rattle.listing.specs.Listing.{Cell, header, cellsText}
@@ -16,7 +16,7 @@ pub record NamesLastWriter (pins : ℕ) (es : List ℕ) (c : Cell) : Type 0 wher
   pub bank-there : c .bank ≤ 16
   pub last : LastStored es (length es) (start pins) (101 * c .bank + c .column)
   pub numbered : c .event ≡ last .event + 1
-  pub byte : c .byte ≡ byteOf last
+  pub byte : c .byte ≡ storedByte last
 
 -- the text is the header and a line for each cell that names its last writer, and no others, by bank, then column
 pub record ListsLastWriters (pins : ℕ) (es text : List ℕ) : Type 0 where

@@ -1,4 +1,4 @@
--- What an event does to the record besides its phase, where it stores nothing: a control byte, a read, a reset pulse, a sensor reading.
+-- What a control byte, a read, a reset pulse and a sensor reading come to.
 use mathlib.Core.Bool.{cond, not, _&&_}
 use Prim.Native.Nat.{ℕ}
 use lib.Dec.{eqb}
