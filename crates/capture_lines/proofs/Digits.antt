@@ -2,15 +2,14 @@
 use mathlib.Core.Path.{_≡_, refl, sym, subst, _∙_}
 use mathlib.Core.Bool.{Bool, true, false, cond, _&&_}
 use mathlib.Core.List.{List, [], _∷_, _++_}
-use Prim.Native.Nat.{ℕ, _+_, _*_, _-_, _<_, _≤_}
+use Prim.Native.Nat.{ℕ, _+_, _*_, _<_, _≤_}
 use native.Mathlib.Omega.{arith}
 use borrow.Author.Tests.{lt-ltb, le-ltb, leb-true, leb-false}
 use lib.Dec.{T, leb, ltb}
 use Rattle.text.specs.declared.Number.the-variants.{Value, Malformed}
 use Rattle.text.specs.Decimal.{isDigit, isLeading, digitValue, oneDigit, twoDigits, threeDigits, numberOf}
 use Rattle.text.proofs.Numbers.{digit-bounds, leading-bounds, bounds-leading, leading-digit}
-use Rattle.capture_lines.specs.declared.LineSoFar.{LineSoFar}
-use Rattle.capture_lines.specs.declared.LineSoFar.the-variants.{Empty, Number, Bad}
+use Rattle.capture_lines.specs.declared.LineSoFar.the-variants.{Number, Bad}
 use Rattle.capture_lines.specs.SoFar.{withByte, onNumber, ofNumber, eventLine}
 
 of-test : (t : Bool) (n : ℕ) → cond t (Number n) Bad ≡ ofNumber (cond t (Value n) Malformed)

@@ -1,11 +1,11 @@
 -- What is promised of a line read byte by byte, in one place: it comes to what the whole line says.
 use mathlib.Core.List.{List, [], _∷_, _++_, append-nil}
-use mathlib.Core.Path.{_≡_, refl, _∙_}
+use mathlib.Core.Path.{_≡_, _∙_}
 use Prim.Native.Nat.{ℕ}
 use lib.Seq.{append-snoc}
 use Rattle.capture_lines.specs.declared.LineSoFar.the-variants.{First, Empty}
 use Rattle.capture_lines.specs.Line.{pinsOf}
-use Rattle.capture_lines.specs.SoFar.{withByte, withBytes, pinsIn, eventLine}
+use Rattle.capture_lines.specs.SoFar.{withBytes, pinsIn, eventLine}
 use Rattle.capture_lines.proofs.Digits.{event-line-kept}
 use Rattle.capture_lines.proofs.Pins.{pins-kept}
 

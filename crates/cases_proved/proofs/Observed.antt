@@ -1,6 +1,6 @@
 -- An observation that was computed distinguishes the definition from a wrong program.
 use mathlib.Core.Bool.{Bool, not, _&&_}
-use mathlib.Core.Path.{_≡_, sym, ap, subst, _∙_}
+use mathlib.Core.Path.{sym, ap, subst, _∙_}
 use Prim.Native.Nat.{ℕ}
 use lib.Dec.{T, T-not, eqb, eqb→eq, eqb-refl}
 use Rattle.registers.proofs.Below.{and-left, and-right}

@@ -3,7 +3,7 @@
 use mathlib.Core.List.{List, [], _∷_}
 use Prim.Native.Nat.{ℕ}
 use Prim.Native.String.{String}
-use Rattle.cases_proved.specs.Cited.{«V», X, Chip, Numbers, Result, numbersOf, compileOf, bytes, getD, replicate}
+use Rattle.cases_proved.specs.Cited.{«V», X, Chip, Numbers, Result, numbersOf, bytes, getD, replicate}
 use Rattle.cases_proved.specs.Observed.{Observation, _gives_not_}
 use Rattle.cases_proved.specs.Start.{Setting, _is_, chipWith}
 

@@ -1,8 +1,8 @@
 -- Wrong chips: what events do to a chosen state, and what a wrong chip would make of them. Document 01's classroom errors are among them, and the chips
 -- that it shuts out by name: one constant acknowledge, one that stays idle, one that refuses everything, a run of the first event only.
 use mathlib.Core.List.{List, [], _∷_, _++_}
-use Prim.Native.Nat.{ℕ, _+_, _-_, _^_}
-use Rattle.cases_proved.specs.Cited.{H, DO, PD, «V», D, MX, X, Y, SM, GR, GS0, GS2, GS3, DOF, DM, EC}
+use Prim.Native.Nat.{_+_, _-_, _^_}
+use Rattle.cases_proved.specs.Cited.{H, DO, PD, «V», D, MX, X, Y, SM, GR, GS0, GS2, GS3, DOF, EC}
 use Rattle.cases_proved.specs.Behaviour.{Behaviour, register, count, status, lastRs, cell, writer, leave, answer, runLeaves, runDone}
 use Rattle.cases_proved.specs.Behaviour.{runRefusal, runAnswer}
 use Rattle.cases_proved.specs.Behaviour.{START, STOP, READ, READLAST, RESET, sensor, nothing, acknowledged, notAcknowledged, byteRead, commands}

@@ -1,5 +1,5 @@
 -- A command byte: the row of the present page that takes it changes its own fields. A byte of no row does nothing.
-use mathlib.Core.List.{List, [], _∷_, map}
+use mathlib.Core.List.{List, [], map}
 use Prim.Native.Nat.{ℕ}
 use lib.ListN.{getD}
 use Rattle.registers.specs.declared.Registers.{Registers}

@@ -1,7 +1,7 @@
 -- One line: the message of a set, how many events and bytes a line has, and the line matched by its kind.
 use mathlib.Core.List.{List, [], _∷_, _++_}
 use mathlib.Core.Path.{_≡_, refl, sym, ap, _∙_, subst}
-use Prim.Native.Nat.{ℕ, _+_, _*_, _-_, _≤_, _<_}
+use Prim.Native.Nat.{ℕ, _+_, _*_, _≤_, _<_}
 use native.Mathlib.Omega.{arith}
 use lib.ListN.{getD, length, take, drop, drop-of-length-le, length-take}
 use Rattle.registers.specs.declared.Registers.{Registers}

@@ -1,5 +1,5 @@
 -- Display bytes (document 01): what is stored, at which place, and how the address counter moves on.
-use mathlib.Core.Bool.{Bool, cond}
+use mathlib.Core.Bool.{cond}
 use Prim.Native.Nat.{ℕ, _+_, _*_, _%_, _-_}
 use lib.Dec.{ltb, eqb}
 use Rattle.registers.specs.declared.Registers.{Registers}

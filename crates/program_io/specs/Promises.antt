@@ -1,6 +1,5 @@
 -- What can be promised of calls of the system.
 use mathlib.Core.Path.{_≡_}
-use Prim.Native.Nat.{ℕ}
 use lib.IntN.{ℤ, pos, negsuc}
 
 -- nothing: every program meets it

@@ -1,13 +1,13 @@
 -- A row's byte from the registers that it is to set: the other way round of `taken`.
 use mathlib.Core.List.{List, [], _∷_}
-use mathlib.Core.Bool.{Bool, true, false, cond, _&&_, _||_}
-use Prim.Native.Nat.{ℕ, zero, suc, _+_, _*_, _%_, _^_}
+use mathlib.Core.Bool.{Bool, false, _&&_, _||_}
+use Prim.Native.Nat.{ℕ, _+_, _*_, _%_, _^_}
 use lib.Dec.{eqb, leb}
 use lib.ListN.{getD}
 use Rattle.registers.specs.declared.Registers.{Registers}
 use Rattle.registers.specs.Places.{GS0, GS3}
 use Rattle.registers.specs.Record.{values}
-use Rattle.registers.specs.Table.{Target, Part, Row, rows, noRow, putTo, orNext}
+use Rattle.registers.specs.Table.{Target, Part, Row, rows, putTo, orNext}
 use Rattle.registers.specs.Table.Target.{register, bounded, selected, unheld}
 
 -- what a target holds; bits that the record does not hold go out as 0

@@ -1,7 +1,7 @@
 -- The instruction set of the data sheet (Table 2; RS 0, R/W 0) as data, page by page; what a row's byte does to the registers.
 -- docs/INSTRUCTIONS.md prints the same rows.
 use mathlib.Core.Bool.{Bool, true, false, _&&_, _||_}
-use mathlib.Core.List.{List, [], _∷_, map}
+use mathlib.Core.List.{List, [], _∷_}
 use Prim.Native.Nat.{ℕ, zero, suc, _+_, _*_, _/_, _%_, _^_}
 use lib.Dec.{leb, eqb}
 use lib.ListN.{getD}

@@ -1,5 +1,5 @@
 -- Document 01's list of rows that can't be read. docs/INSTRUCTIONS.md holds every row of the sheet against its tests: none is listed.
-use mathlib.Core.Bool.{Bool, true, false, _||_}
+use mathlib.Core.Bool.{Bool, false, _||_}
 use mathlib.Core.List.{List, [], _∷_}
 use Prim.Native.Nat.{ℕ}
 use lib.Dec.{eqb}
