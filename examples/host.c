@@ -61,7 +61,7 @@ static void play(uint64_t length)
     must("run", pcf8820_run(record, WORDS, memory, PLACES, writers, PLACES, events, length, &done));
 }
 
-/* 256 is dark, 257 undriven, 512 and above a level of 0 to 63. */
+/* 256 is dark, 257 undriven, 512 and above a level of 0 to 62, or 64. */
 static char shown(uint64_t row, uint64_t column)
 {
     uint64_t pixel = pcf8820_glass(record, WORDS, memory, PLACES, row, column);

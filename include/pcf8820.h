@@ -134,7 +134,8 @@ uint64_t pcf8820_run(uint64_t *record, size_t record_len,
  *   1, 2, 5  refused
  *   256      dark: pd or dof is set
  *   257      undriven: partial screen, and the row is not in the part that is driven
- *   512 + g  the level g, 0..63 */
+ *   512 + g  the level g, 0..62 or 64: a grey register that holds 63 shows 64. A table by level needs
+ *            65 entries, of which that of 63 is never used */
 uint64_t pcf8820_glass(const uint64_t *record, size_t record_len,
                        const uint8_t *memory, size_t memory_len,
                        uint64_t row, uint64_t column);

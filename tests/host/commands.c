@@ -31,18 +31,18 @@ static void try_random_bytes(const struct bus_phase *phase, int times)
             }
 }
 
-/* Each grey register selected in turn, all levels. */
-static void try_grey_levels(void)
+/* Each grey register selected in turn, all that it can hold. */
+static void try_grey_registers(void)
 {
     uint64_t words[MOST_WORDS];
     for (uint16_t selected = 0; selected < 4; selected++)
-        for (uint16_t level = 0; level < 64; level++) {
+        for (uint16_t held = 0; held < 64; held++) {
             random_record(words);
             set_phase(words, &command_phases[1]);
             words[W_H] = 3;
             set_record(words);
             compare_step(0x40 + selected);
-            compare_step(0x80 + level);
+            compare_step(0x80 + held);
         }
 }
 
@@ -60,5 +60,5 @@ void test_commands(void)
         try_bytes(words);
         try_random_bytes(&command_phases[p], quick ? 4 : 60);
     }
-    try_grey_levels();
+    try_grey_registers();
 }

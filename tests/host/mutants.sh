@@ -41,6 +41,8 @@ mutant 'measurement stops by itself' 's/= reading;/= reading, chip->now[SM] = 0;
 mutant 'address above its range cut to it' \
     's/^            continue;/            value = limit[row->fields[i]];/'
 mutant 'level always to grey register 0' 's/field = GS0 + chip->now\[GR\]/field = GS0/'
+mutant '63 stored in a grey register as 64' \
+    's/now\[field\] = effect->value\[i\]/& + (field >= GS0 \&\& field <= GS3 \&\& effect->value[i] == 63)/'
 mutant 'row block swapping changes a field' 's/"010tb000", "", { 0 }/"010tb000", "t", { OC }/'
 mutant 'a bit lost in the swap' 's/b & 0xAA/b \& 0x8A/'
 mutant 'mirror X ignored' 's/chip->now\[MX\] ?/0 ?/'

@@ -162,6 +162,16 @@ static void check_marked_pixels(void)
         require((shown(&chip, row, 0) >= LEVEL) == (row >= 3 && row <= 10), "the driven rows");
 }
 
+/* Document 02, W2: 63 is shown as 64, and nothing else moves. */
+static void check_levels(void)
+{
+    struct chip chip = lit_chip(1);
+    for (uint64_t held = 0; held < 64; held++) {
+        chip.record[GS3] = held;
+        require(shown(&chip, 8, 5) == LEVEL + (held < 63 ? held : 64), "a level");
+    }
+}
+
 /* ---- Playing ----------------------------------------------------------------------------- */
 
 static struct chip random_chip(void)
@@ -266,9 +276,10 @@ int main(void)
         check_marked_stream(&marked[i]);
     check_marked_refusal();
     check_marked_pixels();
+    check_levels();
     play_starts();
     play_random(2000, 12);
     play_random(50, 200);
-    printf("model: %llu streams and %llu pixels, as the paper has them\n", streams, pixels);
+    printf("model: %llu streams and %llu pixels, as the papers have them\n", streams, pixels);
     return 0;
 }

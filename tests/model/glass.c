@@ -49,6 +49,12 @@ static unsigned grey_register(const uint64_t *record, unsigned value)
     }
 }
 
+/* Full black is 64; the chip has 63, the most that a register can hold, stand for it. */
+static uint64_t level_of(uint64_t held)
+{
+    return held == 63 ? 64 : held;
+}
+
 static uint64_t shown(const uint64_t *record, const uint8_t *memory, uint64_t row, uint64_t column)
 {
     uint64_t shown_row = ram_row(record, row);
@@ -57,7 +63,7 @@ static uint64_t shown(const uint64_t *record, const uint8_t *memory, uint64_t ro
     if (record[PS] && !in_part(record[DP], shown_row))
         return UNDRIVEN;
     unsigned value = value_of(memory[place_of(shown_row, column)], shown_row);
-    return LEVEL + record[GS0 + grey_register(record, value)];
+    return LEVEL + level_of(record[GS0 + grey_register(record, value)]);
 }
 
 static bool on_the_glass(uint64_t row, uint64_t column)

@@ -33,6 +33,20 @@ def both(sides, data):
         sides.same(program, data)
 
 
+def one_colour(colour):
+    """A picture of this colour all over."""
+    return b"P3\n101 67\n255\n" + (colour + b"\n") * (101 * 67)
+
+
+def one_grey(grey):
+    return one_colour(b"%d %d %d" % (grey, grey, grey))
+
+
+def all_by_register_3(held):
+    """Display on, in the mode that shows grey register 3 everywhere, and the register set."""
+    return texts.commands(0, 0x10, 0x0C, 0x04, 0x01, 0x09, 0x05, 0x01, 0x0B, 0x43, 0x80 | held, 0x01)
+
+
 def known(sides):
     """Outputs that can be told without any program."""
     head = b"column\tbank\tbyte\tevent\n"
@@ -41,9 +55,13 @@ def known(sides):
     sides.exactly(["replay"], b"pins\t3\n", head)
     sides.exactly(["replay"], b"", b"refused\t1\n")
     sides.exactly(["view"], put + b"261\n", b"refused\t13\n")
-    dark = b"P3\n101 67\n255\n" + b"0 0 96\n" * (101 * 67)
-    sides.exactly(["view"], put, dark)
+    sides.exactly(["view"], put, one_colour(b"0 0 96"))
+    for held, grey in (0, 255), (1, 251), (61, 11), (62, 7), (63, 0):
+        sides.exactly(["view"], texts.capture(all_by_register_3(held)), one_grey(grey))
     sides.exactly(["draw", "0"], b"put\t5\t2\t167\n", put)
+    sides.exactly(["draw", "0"], b"set\tgs3\t63\n",
+                  texts.capture(texts.commands(0, 0x01, 0x0B, 0x43, 0x80 | 63, 0x01)))
+    sides.exactly(["draw", "0"], b"set\tgs3\t64\n", b"refused\t7\t1\n")
     sides.exactly(["draw", "2"], b"set\tgr\t1\n", b"refused\t6\t1\n")
     sides.exactly(["draw", "1"], b"", b"pins\t1\n")
 

@@ -69,14 +69,18 @@ mutant 'upside down' 's/PLACES, row, column)/PLACES, ROWS - 1 - row, column)/'
 mutant 'column by column' \
     's/row = 0; row < ROWS; row++/column = 0; column < COLUMNS; column++/; t; s/column = 0; column < COLUMNS; column++/row = 0; row < ROWS; row++/'
 mutant 'width and height exchanged' 's/COLUMNS, ROWS);/ROWS, COLUMNS);/'
-mutant 'greys inverted' 's/(64 - (unsigned)(shown - LEVEL))/(1 + (unsigned)(shown - LEVEL))/'
-mutant 'greys of 63 steps' 's/(64 - \(.*\)) \/ 64/(63 - \1) \/ 63/'
-mutant 'greys rounded up' 's/ \/ 64;/ \/ 64 + 1 - (shown == LEVEL);/'
+mutant 'greys inverted' 's/(64 - (unsigned)(shown - LEVEL))/(unsigned)(shown - LEVEL)/'
+mutant 'greys of 63 steps' 's/(64 - \(.*\)) \/ 64/(\1 > 63 ? 0 : 63 - \1) \/ 63/'
+mutant 'greys rounded up' 's/ \/ 64;/ \/ 64 + (shown != LEVEL \&\& shown != LEVEL + 64);/'
 mutant 'dark pixels black' 's/0 0 96/0 0 0/'
 mutant 'undriven pixels dark' 's/96 64 0/0 0 96/'
 mutant 'one value a pixel' 's/P3/P2/; s/"%u %u %u.n", grey, grey, grey/"%u\\n", grey/'
 mutant 'several pixels a line' 's/%u %u %u.n/%u %u %u /'
 mutant 'refused capture shown' 's/printf("refused.*/print_glass(\&played);/'
+
+model=glass
+mutant '63 shown as 63' 's/held == 63 ? 64 : held/held/'
+mutant '62 shown as 64' 's/held == 63/held >= 62/'
 
 groups=pairs
 model=compare

@@ -28,9 +28,11 @@ def data(pins, x, y, content):
 
 
 def lights(random, pins):
-    """Display on, in some mode, mirrored or not, whole or in part, with four levels."""
+    """Display on, in some mode, mirrored or not, whole or in part, and the four grey registers set, often
+    to what is shown as white, as the shade next to black and as black."""
     part = random.choice([0, 0, 7, random.randrange(8)])
-    greys = [b for n in range(4) for b in (0x40 | n, 0x80 | random.randrange(64))]
+    greys = [b for n in range(4)
+             for b in (0x40 | n, 0x80 | random.choice([0, 62, 63, random.randrange(64)]))]
     return commands(pins, 0x01, 0x10 | random.choice([0, 0, 2, 8, 10]), 0x0C, 0x04, 0x01, 0x09,
                     0x04 | random.choice([0, 1, 2, 2, 2, 3]),
                     0x08 | random.choice([0, 0, 1, 2, 4, 6, 7]), 0x40 | part,

@@ -87,6 +87,11 @@ answerRows =
     ∷ number [] "fill\t5\t5\t15\t16\t64\n" 100 gives 7 not 0
     ∷ number [] "set\tpd\t2\n" 100 gives 7 not 0
     ∷ number [] "set\tpd\t256\n" 100 gives 7 not 0
+    -- 64, the level that a grey register of 63 shows, taken as a register's number, and 63 refused
+    ∷ number [] "set\tgs0\t64\n" 100 gives 7 not 0
+    ∷ number [] "set\tgs0\t63\n" 100 gives 0 not 7
+    -- 64 sent for 63
+    ∷ word 9 [] "set\tgs0\t63\n" 13 gives 0b1011_1111 not 0b1100_0000
     -- fields that no line can name
     ∷ number [] "set\tx\t5\n" 100 gives 6 not 0
     ∷ number [] "set\tgr\t2\n" 100 gives 6 not 0

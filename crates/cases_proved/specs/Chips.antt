@@ -98,6 +98,10 @@ commandBytes =
     -- a level to grey register 0, whatever GR selects
     ∷ leave (upon (H is 3 ∷ GR is 2 ∷ [])) (commands (0b1010_0001 ∷ [])) (register GS2) gives 33 not 0
     ∷ leave (upon (H is 3 ∷ GR is 2 ∷ [])) (commands (0b1010_0001 ∷ [])) (register GS0) gives 0 not 33
+    -- 63 written to a grey register as 64, the level that it shows; and a register of 63 written back as 64 later
+    ∷ leave (upon (H is 3 ∷ GR is 2 ∷ [])) (commands (0b1011_1111 ∷ [])) (register GS2) gives 63 not 64
+    ∷ leave (upon (GS2 is 63 ∷ [])) (START ∷ []) (register GS2) gives 63 not 64
+    ∷ leave (upon (GS2 is 63 ∷ [])) (displayBytes (0xA7 ∷ [])) (register GS2) gives 63 not 64
     -- two rows of page 4 that take the same byte
     ∷ leave (upon (H is 4 ∷ [])) (commands (0b0000_1010 ∷ [])) (register EC) gives 1 not 0
     ∷ leave (upon (H is 4 ∷ DOF is 0 ∷ [])) (commands (0b0000_1010 ∷ [])) (register DOF) gives 0 not 1

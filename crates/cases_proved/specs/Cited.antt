@@ -25,8 +25,8 @@ pub use Rattle.capture.specs.Replay.{Replay, refusedBy, refusedAt, replayed}
 pub use Rattle.glass.specs.declared.answer.Shown.{Shown}
 pub use Rattle.glass.specs.declared.answer.Cell.{Cell}
 pub use Rattle.glass.specs.Answer.{shownNumber, cellNumber}
-pub use Rattle.glass.specs.Glass.{ramRowOf}
-pub use Rattle.glass.specs.Pixel.{Pixel, dark, undriven, uses, placeAt, pixelOf}
+pub use Rattle.glass.specs.Pixel.{Pixel, dark, undriven, uses}
+pub use Rattle.glass.specs.When.{pixelOn}
 -- these are opened where a case is computed
 unfoldable pub use Rattle.registers.specs.Record.{allowed}
 unfoldable pub use Rattle.registers.specs.Table.{rowAt}

@@ -1,7 +1,7 @@
 -- Wrong glasses: what a chosen chip and memory show, and what a wrong glass would show of them.
 use mathlib.Core.List.{List, [], _∷_, _++_}
 use Prim.Native.Nat.{ℕ, _+_}
-use Rattle.cases_proved.specs.Cited.{PD, D, E, MX, MY, PS, X, DP, DOF, Chip, Shown, Cell, shownNumber, cellNumber, glassOf, cellOf, replicate}
+use Rattle.cases_proved.specs.Cited.{PD, D, E, MX, MY, PS, X, DP, GS0, GS1, GS2, GS3, DOF, Chip, Shown, Cell, shownNumber, cellNumber, glassOf, cellOf, replicate}
 use Rattle.cases_proved.specs.Observed.{Observation, _gives_not_}
 use Rattle.cases_proved.specs.Start.{Setting, _is_, oneCell, viewed}
 
@@ -77,6 +77,21 @@ glassRows =
     ∷ shown mode00 9 5 gives grey 0 not grey 3
     -- the number of the grey register for its level
     ∷ shown mode10 8 5 gives level 43 not level 3
+    -- 63 shown as 63, in each of the four registers
+    ∷ shown (GS0 is 63 ∷ mode10) 7 5 gives level 64 not level 63
+    ∷ shown (GS1 is 63 ∷ mode10) 9 5 gives level 64 not level 63
+    ∷ shown (GS2 is 63 ∷ mode10) 10 5 gives level 64 not level 63
+    ∷ shown (GS3 is 63 ∷ mode10) 8 5 gives level 64 not level 63
+    -- 62 shown as 63, and as 64; every level one higher
+    ∷ shown (GS3 is 62 ∷ mode10) 8 5 gives level 62 not level 63
+    ∷ shown (GS3 is 62 ∷ mode10) 8 5 gives level 62 not level 64
+    ∷ shown (GS3 is 0 ∷ mode10) 8 5 gives level 0 not level 1
+    -- 64 where another register holds 63, and where the pixel is dark or undriven
+    ∷ shown (GS0 is 63 ∷ mode10) 8 5 gives grey 3 not level 64
+    ∷ shown (GS3 is 63 ∷ mode10 ++ DOF is 1 ∷ []) 8 5 gives dark not level 64
+    ∷ shown (GS3 is 63 ∷ mode10 ++ part 0b000) 8 5 gives undriven not level 64
+    -- a register that holds 64
+    ∷ shown (GS3 is 64 ∷ mode10) 8 5 gives 2 not level 64
     -- MX applied when showing
     ∷ shown (MX is 1 ∷ mode10) 8 5 gives grey 3 not grey 0
     ∷ shown (MX is 1 ∷ mode10) 8 95 gives grey 0 not grey 3

@@ -7,7 +7,7 @@ use lib.Dec.{leb, eqb}
 use Rattle.cases_proved.specs.Cited.{getD, length, replicate, Registers, Chip, DO, PD, «V», D, E, MX, MY, PS, X, Y, DP, DOF}
 use Rattle.cases_proved.specs.Cited.{values, inPhase, State, state, EndlessBytes, stepOf}
 use Rattle.cases_proved.specs.Cited.{bytes, sameBytes, Numbers, Result, compileOf, numbersOf}
-use Rattle.cases_proved.specs.Cited.{Pixel, dark, undriven, uses, placeAt, pixelOf, shownNumber, ramRowOf, glassOf}
+use Rattle.cases_proved.specs.Cited.{Pixel, dark, undriven, uses, shownNumber, pixelOn, glassOf}
 use Rattle.cases_proved.specs.Start.{Setting, _is_, chipWith, zeros, oneCell, viewed}
 
 pub data Case : Type 0 where
@@ -36,9 +36,6 @@ agrees (a ∷ rest) r = eqb (getD (values r) (a .register) 0) (a .value) && agre
 abbrev pub prepared : List Setting → Bool → State
 prepared before rs = state (inPhase (chipWith before) (EndlessBytes rs)) zeros zeros
 
-abbrev pub pixel : Chip → ℕ → Pixel
-pixel c row = pixelOf (c .registers) (ramRowOf c row) (getD oneCell (placeAt (ramRowOf c row) 5) 0)
-
 abbrev pub usesRegister : ℕ → Pixel → Bool
 usesRegister g dark = false
 usesRegister g undriven = false
@@ -51,7 +48,7 @@ shows c row = shownNumber (glassOf c oneCell row 5)
 -- each row's register is used, and its level is shown
 abbrev pub useThese : Chip → ℕ → List ℕ → Bool
 useThese c row [] = true
-useThese c row (g ∷ gs) = usesRegister g (pixel c row) && eqb (shows c row) (512 + 40 + g) && useThese c (suc row) gs
+useThese c row (g ∷ gs) = usesRegister g (pixelOn c oneCell row 5) && eqb (shows c row) (512 + 40 + g) && useThese c (suc row) gs
 
 -- a row that is driven shows a level
 abbrev pub allDriven : Chip → List ℕ → Bool

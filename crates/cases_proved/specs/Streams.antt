@@ -107,6 +107,9 @@ wrongOutputs =
     ∷ output [] "set\tgs2\t33\n" (commands (return ∷ page 3 ∷ 0b1010_0001 ∷ return ∷ []))
     -- a select without its level
     ∷ output [] "set\tgs2\t33\n" (commands (return ∷ page 3 ∷ 0b0100_0010 ∷ return ∷ []))
+    -- 63 sent as 64, the level that it shows: cut to six bits, and not cut, which is no row of that page
+    ∷ output [] "set\tgs0\t63\n" (commands (return ∷ page 3 ∷ 0b0100_0000 ∷ 0b1000_0000 ∷ return ∷ []))
+    ∷ output [] "set\tgs0\t63\n" (commands (return ∷ page 3 ∷ 0b0100_0000 ∷ 0b1100_0000 ∷ return ∷ []))
     -- no page command, no page return before it, and the page of another row
     ∷ output [] "set\tmx\t1\n" (commands (return ∷ 0b0000_1100 ∷ return ∷ []))
     ∷ output (H is 2 ∷ []) "set\tmx\t1\n" (commands (page 1 ∷ 0b0000_1100 ∷ return ∷ []))

@@ -10,7 +10,7 @@ use Rattle.registers.specs.declared.Chip.{Chip}
 use Rattle.glass.specs.declared.answer.Shown.{Shown}
 use Rattle.glass.specs.declared.answer.Shown.the-variants as shown
 use Rattle.glass.specs.declared.answer.Cell.the-variants as cell
-use Rattle.glass.specs.Pixel.{placeAt, valueIn, isOff, isUndriven, registerUsed, levelOf}
+use Rattle.glass.specs.Pixel.{placeAt, valueIn, isOff, isUndriven, registerUsed, heldBy, levelOf}
 use Rattle.glass.specs.Glass.{placeRefusal, glassRefusal, ramRowOf, cellOf, shownOf, glassOf}
 use Rattle.glass.specs.When.{PlaceWhen, GlassWhen}
 use Rattle.glass.proofs.Refusals.{place-exactly, glass-exactly}
@@ -18,7 +18,7 @@ use Rattle.glass.proofs.Refusals.{place-exactly, glass-exactly}
 -- ---- a pixel
 
 -- there are four grey registers
-pub past-last : (r : Registers) (g : ℕ) → 4 ≤ g → 0 ≡ levelOf r g
+pub past-last : (r : Registers) (g : ℕ) → 4 ≤ g → 0 ≡ heldBy r g
 past-last r g h = sym (List·getD-eq-default (r .gs0 ∷ r .gs1 ∷ r .gs2 ∷ r .gs3 ∷ []) 0 h)
 
 -- the two bits of each of the four rows

@@ -1,9 +1,10 @@
 -- What is promised of the glass, in one place: read this file first. The work stands in the files beside it.
-use mathlib.Core.Path.{_≡_, sym, ap, ap₂, _∙_}
+use mathlib.Core.Path.{_≡_, sym, ap, ap₂, subst, _∙_}
 use mathlib.Core.Bool.{true}
 use mathlib.Core.List.{List}
 use mathlib.Core.Logic.{_⊎_, _↔_}
-use Prim.Native.Nat.{ℕ, suc, _/_, _%_, _-_, _≤_, _<_}
+use Prim.Native.Nat.{ℕ, zero, suc, _+_, _/_, _%_, _-_, _≤_, _<_, zero-le}
+use native.Mathlib.Omega.{arith}
 use lib.ListN.{length, getD}
 use Rattle.registers.specs.declared.Chip.{Chip}
 use Rattle.registers.specs.Places.{MX, MY}
@@ -12,14 +13,16 @@ use Rattle.registers.specs.Refusals.{_then_, lengthRefusal}
 use Rattle.registers.specs.State.{places}
 use Rattle.glass.specs.declared.answer.Shown.the-variants as shown
 use Rattle.glass.specs.declared.answer.Cell.the-variants as cell
-use Rattle.glass.specs.Pixel.{dark, uses, placeAt, pixelOf, levelOf}
+use Rattle.glass.specs.Pixel.{dark, uses, placeAt, pixelOf, heldBy, levelFor, levelOf}
+use Rattle.glass.specs.Answer.{shownNumber}
 use Rattle.glass.specs.Changed.{changed}
 use Rattle.glass.specs.Glass.{placeRefusal, glassRefusal, ramRowOf, cellUnless, cellOf, shownOf, shownAt, shownUnless, glassOf}
-use Rattle.glass.specs.When.{PlaceWhen, GlassWhen}
+use Rattle.glass.specs.When.{PlaceWhen, GlassWhen, pixelOn, LitBy}
 use Rattle.glass.proofs.Pixels.{ram-bound, place-of}
-use Rattle.glass.proofs.Refusals.{place-exactly, glass-exactly}
+use Rattle.glass.proofs.Refusals.{place-exactly, glass-exactly, when-bound}
 use Rattle.glass.proofs.Views.{changed-refusal, mirrored-refusal, flipped-row, my-bound, refused-by, refused-place-by, found-at, shown-through}
-use Rattle.glass.proofs.Views.{never-refused, dark-either, dark-by, level-bound}
+use Rattle.glass.proofs.Views.{never-refused, dark-either, dark-by}
+use Rattle.glass.proofs.Levels.{level-kept, level-kinds, level-apart, held-bound, UsesLevel, uses-level, uses-one-of-four, one-level, number-of-level}
 
 -- ---- refusals and answers
 
@@ -50,13 +53,6 @@ module _ (c : Chip) (m : List ℕ) (row column : ℕ) where
     λ w. rw (glass-exactly c (length m) row column (suc k) .1 w),
   )
 
-  -- a level is 0 to 63
-  pub level-within : (g : ℕ) → glassOf c m row column ≡ shown.Level g → g ≤ 63
-  unfolding glassOf
-  level-within g e =
-      let through = shown-through (glassRefusal c (length m) row column) _ (shown.Level g) (never-refused (λ f. g) (uses 0)) e in
-      level-bound c (glass-exactly c (length m) row column 0 .0 (through .0) .1) (pixelOf (c .registers) (ramRowOf c row) _) g (through .1)
-
   -- the pixel's value stands in the byte at its place, and nothing else of the memory is shown
   pub stands-in-byte :
       (p : ℕ) → length m ≡ places → cellOf c row column ≡ cell.At p
@@ -78,6 +74,84 @@ module _ (c : Chip) (m : List ℕ) (row column : ℕ) where
     ),
     λ w. rw (glass-exactly c (length m) row column 0 .1 (w .0), dark-either (c .registers) (w .1)),
   )
+
+-- ---- levels: document 01's rule as document 02, W2, amends it
+
+module _ (c : Chip) (m : List ℕ) (row column : ℕ) where
+  -- a level that is shown is that of the register used, and nothing was refused
+  level-used : (g : ℕ) → glassOf c m row column ≡ shown.Level g → GlassWhen c (length m) row column 0 × UsesLevel (levelOf (c .registers)) (pixelOn c m row column) g
+  unfolding glassOf
+  level-used g e =
+      let through = shown-through (glassRefusal c (length m) row column) _ (shown.Level g) (never-refused (λ f. g) (uses 0)) e in
+      (glass-exactly c (length m) row column 0 .0 (through .0), uses-level (levelOf (c .registers)) (pixelOn c m row column) g (through .1))
+
+  -- the level for a number is shown exactly where the register used holds it
+  pub level-exactly :
+      (n : ℕ) → n ≤ 63 → (glassOf c m row column ≡ shown.Level (levelFor n)) ↔ (GlassWhen c (length m) row column 0 × LitBy c m row column n)
+  unfolding glassOf
+  level-exactly n h = (
+    λ e. let found = level-used (levelFor n) e in
+        let f : ℕ = found .1 .register in (
+          found .0,
+          record {
+            register = f;
+            used = found .1 .used;
+            holds = level-apart (heldBy (c .registers) f) n (held-bound c (found .0 .1) f) h (found .1 .shows);
+          },
+        ),
+    λ w. rw (glass-exactly c (length m) row column 0 .1 (w .0), w .1 .used, w .1 .holds),
+  )
+
+  -- a level is 0 to 62, or 64
+  pub level-within : (g : ℕ) → glassOf c m row column ≡ shown.Level g → (g < 63) ⊎ (g ≡ 64)
+  level-within g e =
+      let found = level-used g e in
+      let f : ℕ = found .1 .register in
+      subst (λ (x : ℕ). (x < 63) ⊎ (x ≡ 64)) (found .1 .shows) (level-kinds (heldBy (c .registers) f) (held-bound c (found .0 .1) f))
+
+  -- 64 exactly where nothing is refused and the register used holds 63; a lower one exactly where it holds that number
+  pub level-64-when : (glassOf c m row column ≡ shown.Level 64) ↔ (GlassWhen c (length m) row column 0 × LitBy c m row column 63)
+  level-64-when = level-exactly 63 (omega arith)
+
+  pub level-when : (g : ℕ) → g < 63 → (glassOf c m row column ≡ shown.Level g) ↔ (GlassWhen c (length m) row column 0 × LitBy c m row column g)
+  level-when g h =
+      subst (λ (x : ℕ). (glassOf c m row column ≡ shown.Level x) ↔ (GlassWhen c (length m) row column 0 × LitBy c m row column g)) (level-kept g (λ e. omega arith))
+      (level-exactly g (omega arith))
+
+  -- the register used is one of the four
+  pub one-of-four : (n : ℕ) (lit : LitBy c m row column n) → lit .register ≤ 3
+  one-of-four n lit = uses-one-of-four (c .registers) (ramRowOf c row) _ (lit .register) (lit .used)
+
+  -- 512 + g is the number of level g alone
+  pub level-number : (g : ℕ) → (shownNumber (glassOf c m row column) ≡ 512 + g) ↔ (glassOf c m row column ≡ shown.Level g)
+  level-number g = (number-of-level _ g refused-to-5, λ e. rw e)
+    where
+      refused-to-5 : (k : ℕ) → glassOf c m row column ≡ shown.Refused k → k ≤ 5
+      refused-to-5 zero e = zero-le
+      refused-to-5 (suc k) e = when-bound c (length m) row column (suc k) (glass-refused-when c m row column k .0 e)
+
+-- two grey registers, of one chip or of two, show the same level exactly if they hold the same number
+pub same-level :
+    (c d : Chip) → allowed c ≡ true → allowed d ≡ true → (f g : ℕ)
+    → (levelOf (c .registers) f ≡ levelOf (d .registers) g) ↔ (heldBy (c .registers) f ≡ heldBy (d .registers) g)
+same-level c d a b f g = (level-apart _ _ (held-bound c a f) (held-bound d b g), λ e. ap levelFor e)
+
+-- two lit pixels, of one glass or of two, show the same exactly if the registers that they use hold the same number
+pub same-shown :
+    (c d : Chip) (m w : List ℕ) (row column row′ column′ n k : ℕ)
+    → GlassWhen c (length m) row column 0 → LitBy c m row column n
+    → GlassWhen d (length w) row′ column′ 0 → LitBy d w row′ column′ k
+    → (glassOf c m row column ≡ glassOf d w row′ column′) ↔ (n ≡ k)
+same-shown c d m w row column row′ column′ n k on lit on′ lit′ =
+    let n-bound : n ≤ 63 = subst (λ (x : ℕ). x ≤ 63) (lit .holds) (held-bound c (on .1) (lit .register)) in
+    let k-bound : k ≤ 63 = subst (λ (x : ℕ). x ≤ 63) (lit′ .holds) (held-bound d (on′ .1) (lit′ .register)) in
+    let first = level-exactly c m row column n n-bound .1 (on, lit) in
+    let second = level-exactly d w row′ column′ k k-bound .1 (on′, lit′) in (
+      λ e. level-apart n k n-bound k-bound (one-level (levelFor n) (levelFor k) (sym first ∙ e ∙ second)),
+      λ e. first ∙ ap (λ (x : ℕ). shown.Level (levelFor x)) e ∙ sym second,
+    )
+
+-- ---- one byte
 
 -- two memories that agree at a pixel's place show the same pixel
 pub one-byte :

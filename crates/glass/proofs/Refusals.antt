@@ -2,7 +2,7 @@
 use mathlib.Core.Path.{_≡_, refl, subst}
 use mathlib.Core.Bool.{Bool, true, false, not, _||_}
 use mathlib.Core.Logic.{_↔_}
-use Prim.Native.Nat.{ℕ, zero, suc}
+use Prim.Native.Nat.{ℕ, zero, suc, _≤_}
 use native.Mathlib.Omega.{arith}
 use borrow.Author.Tests.{eq-eqb, ne-eqb, le-ltb, eqb-true, eqb-false, ltb-false}
 use lib.Dec.{eqb, ltb}
@@ -90,3 +90,13 @@ module _ (c : Chip) (n row column : ℕ) where
 
   pub glass-exactly : (k : ℕ) → (glassRefusal c n row column ≡ k) ↔ GlassWhen c n row column k
   glass-exactly k = (λ e. subst (λ (x : ℕ). GlassWhen c n row column x) e glass-when, glass-so k)
+
+  -- the table ends with 5
+  pub when-bound : (k : ℕ) → GlassWhen c n row column k → k ≤ 5
+  when-bound zero h = omega arith
+  when-bound (suc zero) h = omega arith
+  when-bound (suc (suc zero)) h = omega arith
+  when-bound (suc (suc (suc zero))) h = omega arith
+  when-bound (suc (suc (suc (suc zero)))) h = omega arith
+  when-bound (suc (suc (suc (suc (suc zero))))) h = omega arith
+  when-bound (suc (suc (suc (suc (suc (suc k)))))) h = absurd h

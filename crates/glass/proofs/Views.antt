@@ -1,15 +1,15 @@
--- What the laws rest on: a chip with one register changed, answers that are refusals, and the bounds of what is shown.
+-- What the laws rest on: a chip with one register changed, answers that are refusals, and what darkens.
 use mathlib.Core.Path.{_≡_, refl, sym, ap, ap₂, _∙_}
 use mathlib.Core.Bool.{Bool, true, false, cond, not, _&&_, _||_}
 use mathlib.Core.Logic.{_⊎_, inl, inr}
-use Prim.Native.Nat.{ℕ, zero, suc, _-_, _%_, _≤_, zero-le}
+use Prim.Native.Nat.{ℕ, zero, suc, _-_, _%_, _≤_}
 use native.Mathlib.Omega.{arith}
 use borrow.Author.Tests.{le-ltb, eq-eqb, eqb-true}
 use lib.Dec.{eqb, leb}
 use lib.ListN.{getD}
 use Rattle.registers.specs.declared.Registers.{Registers}
 use Rattle.registers.specs.declared.Chip.{Chip}
-use Rattle.registers.specs.Places.{MY, GS0, GS1, GS2, GS3}
+use Rattle.registers.specs.Places.{MY}
 use Rattle.registers.specs.Refusals.{refuse, _then_}
 use Rattle.registers.specs.Record.{limits, allowed}
 use Rattle.registers.proofs.Within.{register-bound, allowed-registers}
@@ -17,7 +17,7 @@ use Rattle.registers.proofs.Put.{put-allowed}
 use Rattle.glass.specs.declared.answer.Shown.{Shown}
 use Rattle.glass.specs.declared.answer.Shown.the-variants as shown
 use Rattle.glass.specs.declared.answer.Cell.the-variants as cell
-use Rattle.glass.specs.Pixel.{Pixel, dark, undriven, uses, ramRow, valueIn, isOff, isUndriven, registerUsed, pixelOf, levelOf}
+use Rattle.glass.specs.Pixel.{Pixel, dark, undriven, uses, ramRow, valueIn, isOff, isUndriven, registerUsed, pixelOf}
 use Rattle.glass.specs.Changed.{changed}
 use Rattle.glass.specs.Glass.{offGlass, placeRefusal, cellUnless, shownBy, shownUnless}
 
@@ -103,17 +103,3 @@ dark-by level r ram byte = go (eqb (r .pd) 1) (eqb (r .dof) 1) (isUndriven (r .p
     go false true u ea eb e = inr (eqb-true (r .dof) 1 eb)
     go false false true ea eb e = let z : _≡_ {A = ℕ} 0 1 = cc in absurd (omega arith)
     go false false false ea eb e = let z : _≡_ {A = ℕ} 0 1 = cc in absurd (omega arith)
-
--- ---- bounds
-
-grey-bound : (c : Chip) → allowed c ≡ true → (g : ℕ) → levelOf (c .registers) g ≤ 63
-grey-bound c h zero = register-bound (c .registers) (allowed-registers c h) GS0
-grey-bound c h (suc zero) = register-bound (c .registers) (allowed-registers c h) GS1
-grey-bound c h (suc (suc zero)) = register-bound (c .registers) (allowed-registers c h) GS2
-grey-bound c h (suc (suc (suc zero))) = register-bound (c .registers) (allowed-registers c h) GS3
-grey-bound c h (suc (suc (suc (suc g)))) = zero-le
-
-pub level-bound : (c : Chip) → allowed c ≡ true → (p : Pixel) (g : ℕ) → shownBy (levelOf (c .registers)) p ≡ shown.Level g → g ≤ 63
-level-bound c h dark g e = let z : _≡_ {A = ℕ} 0 1 = cc in absurd (omega arith)
-level-bound c h undriven g e = let z : _≡_ {A = ℕ} 0 1 = cc in absurd (omega arith)
-level-bound c h (uses f) g e = let same : levelOf (c .registers) f ≡ g = cc in rw (sym same) (grey-bound c h f)

@@ -1,4 +1,5 @@
--- One pixel of the glass (document 01, "What the glass shows"): where its value stands, whether it is lit, and by which grey register.
+-- One pixel of the glass (document 01, "What the glass shows"): where its value stands, whether it is lit, by which grey register, and that register's
+-- level.
 use mathlib.Core.Bool.{Bool, cond, not, _&&_, _||_}
 use mathlib.Core.List.{[], _∷_}
 use Prim.Native.Nat.{ℕ, _+_, _*_, _/_, _%_, _-_, _^_}
@@ -56,6 +57,17 @@ pixelOf r ram byte =
     (cond (isUndriven (r .ps) (r .dp) ram) undriven
     (uses (registerUsed (r .d) (r .e) (valueIn byte (ram % 4)))))
 
--- the level of a grey register is the register's number
+-- ---- its level
+
+-- the number that a grey register holds; there are four, and 0 stands for what is past them
+abbrev pub heldBy : Registers → ℕ → ℕ
+heldBy r g = getD (r .gs0 ∷ r .gs1 ∷ r .gs2 ∷ r .gs3 ∷ []) g 0
+
+-- the level for the number held. By document 01 it is that number, 0..63; document 02, W2, amends this: a register that holds 63 shows level 64, so that a
+-- level is 0..62 or 64. Its source is the data sheet, 8.1.8: the chip converts a setting of 63 to 64 inside. The register still holds 63
+abbrev pub levelFor : ℕ → ℕ
+levelFor n = cond (eqb n 63) 64 n
+
+-- the level of a grey register
 abbrev pub levelOf : Registers → ℕ → ℕ
-levelOf r g = getD (r .gs0 ∷ r .gs1 ∷ r .gs2 ∷ r .gs3 ∷ []) g 0
+levelOf r g = levelFor (heldBy r g)

@@ -1,4 +1,4 @@
--- Document 01, "Numbers given back", 1, 2 and 5: exactly when each refusal of the glass comes.
+-- Exactly when each refusal of the glass comes (document 01, "Numbers given back", 1, 2 and 5), and what it takes for a pixel to show a level.
 use mathlib.Core.Bool.{true, false}
 use mathlib.Core.List.{List, [], _∷_}
 use mathlib.Core.Path.{_≡_}
@@ -7,6 +7,10 @@ use lib.ListN.{getD}
 use Rattle.registers.specs.declared.Chip.{Chip}
 use Rattle.registers.specs.Record.{allowed}
 use Rattle.registers.specs.State.{places}
+use Rattle.glass.specs.Pixel.{Pixel, uses, placeAt, pixelOf, heldBy}
+use Rattle.glass.specs.Glass.{ramRowOf}
+
+-- ---- refusals
 
 -- the glass has 67 rows and 101 columns
 pub record OnGlass (row column : ℕ) : Type 0 where
@@ -40,3 +44,15 @@ PlaceWhen c row column k = getD (placeConditions c row column) k ⊥
 
 abbrev pub GlassWhen : Chip → ℕ → ℕ → ℕ → ℕ → Type 0
 GlassWhen c memoryLength row column k = getD (glassConditions c memoryLength row column) k ⊥
+
+-- ---- levels
+
+-- the pixel at a row and column, of the byte that stands there
+abbrev pub pixelOn : Chip → List ℕ → ℕ → ℕ → Pixel
+pixelOn c memory row column = pixelOf (c .registers) (ramRowOf c row) (getD memory (placeAt (ramRowOf c row) column) 0)
+
+-- it is lit, and the grey register that it uses holds n
+pub record LitBy (c : Chip) (memory : List ℕ) (row column n : ℕ) : Type 0 where
+  pub register : ℕ
+  pub used : pixelOn c memory row column ≡ uses register
+  pub holds : heldBy (c .registers) register ≡ n

@@ -2,7 +2,7 @@
 ghost use mathlib.Core.Path.{_≡_};
 ghost use Rattle.glass.specs.Answer.{shownNumber, cellNumber};
 
-// What is shown. Dark: the display is off; undriven: the row is outside the partial display; a level is 0 to 63.
+// What is shown. Dark: the display is off; undriven: the row is outside the partial display; a level is 0 to 62, or 64.
 pub enum Shown {
     Refused(u8),
     Dark,

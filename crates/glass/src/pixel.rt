@@ -1,7 +1,7 @@
 // One pixel: where its value stands in the memory, whether it is lit, by which grey register, and that register's level.
 ghost use mathlib.Core.Path.{_≡_};
 ghost use Prim.Native.Nat.{_<_, _≤_};
-ghost use Rattle.glass.specs.Pixel.{ramRow, placeAt, valueIn, isOff, isDriven, isUndriven, registerUsed, levelOf};
+ghost use Rattle.glass.specs.Pixel.{ramRow, placeAt, valueIn, isOff, isDriven, isUndriven, registerUsed, heldBy, levelFor, levelOf};
 ghost use Rattle.glass.specs.Glass.{shownOf};
 use crate::answer::Shown;
 use registers::Registers;
@@ -70,9 +70,9 @@ fn register_used(d: u8, e: u8, value: u8) -> u8
     }
 }
 
-// The register's number. There is no register past the four, and no pixel uses one.
-fn level(registers: Registers, register: u8) -> u8
-    ensures { λ r. ⌜ r ≡ levelOf registers register ⌝ }
+// There is no grey register past the four, and no pixel uses one.
+fn held_by(registers: Registers, register: u8) -> u8
+    ensures { λ r. ⌜ r ≡ heldBy registers register ⌝ }
 {
     match register {
         0 => registers.gs0,
@@ -81,6 +81,20 @@ fn level(registers: Registers, register: u8) -> u8
         3 => registers.gs3,
         _ => 0,
     }
+}
+
+// Full black is level 64, which six bits can't hold: the chip has 63 stand for it.
+fn level_for(held: u8) -> u8
+    ensures { λ r. ⌜ r ≡ levelFor held ⌝ }
+{
+    if held == 63 { 64 } else { held }
+}
+
+// The level is made here and not where a register is set: the register is to read 63.
+fn level(registers: Registers, register: u8) -> u8
+    ensures { λ r. ⌜ r ≡ levelOf registers register ⌝ }
+{
+    level_for(held_by(registers, register))
 }
 
 // What a RAM row shows of the byte at its place.

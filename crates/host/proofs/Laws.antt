@@ -1,8 +1,9 @@
--- The calls of the host are refused exactly when document 01 says, and a refused call changes nothing. (record_words: words and record.)
+-- The calls of the host are refused exactly when document 01 says, and a refused call changes nothing; what the glass gives for a level; demand 3 and the
+-- last writer by calls alone. (record_words: words and record.)
 use mathlib.Core.Path.{_≡_, refl, sym, ap, _∙_, subst}
-use mathlib.Core.Bool.{Bool, true, false, not, _||_}
+use mathlib.Core.Bool.{Bool, true, false, cond, not, _||_}
 use mathlib.Core.List.{List}
-use mathlib.Core.Logic.{_↔_, inl, inr}
+use mathlib.Core.Logic.{_⊎_, _↔_, inl, inr}
 use Prim.Native.Nat.{ℕ, suc, _+_, _^_, _≤_, _<_}
 use native.Mathlib.Omega.{arith}
 use native.Mathlib.Nat.{suc-ne-zero}
@@ -22,10 +23,14 @@ use Rattle.engine.specs.Step as inside
 use Rattle.engine.specs.Step.{Fit, eventRefusal, refusalOf, accepted, stepOf}
 use Rattle.engine.specs.Run.{runFrom, runOf}
 use Rattle.record_words.specs.Words.{COUNT, standsFor, chipOf}
+use Rattle.glass.specs.declared.answer.Shown.the-variants as shown
 use Rattle.glass.specs.Pixel.{placeAt}
 use Rattle.glass.specs.Answer.{shownNumber}
 use Rattle.glass.specs.Glass as glass
 use Rattle.glass.specs.Glass.{ramRowOf, cellOf, shownAt, glassOf}
+use Rattle.glass.specs.When.{LitBy}
+use Rattle.glass.proofs.Refusals.{glass-exactly}
+use Rattle.glass.proofs.Laws.{level-within, level-64-when, level-number}
 use Rattle.host.specs.Calls.{noRecordFor, noRecord, stepped, stepCall, stepRefusal, afterStep, entryRefusal, ran, runCall, afterRun}
 use Rattle.host.specs.Compiling.{Compiled, compiled, compileCall}
 use Rattle.host.specs.Playing.{Buffers, PlayedByCalls, DrawnByCalls, LastWriterByCalls}
@@ -159,14 +164,47 @@ module _ (row column : ℕ) (ws : List ℕ) where
         go true h = rw (h, glass-of-chip h ∙ r)
         go false h = rw h (glass-of-none h ∙ r)
 
+    stands-unless-refused : glassRefusal row column ws m ≡ 0 → standsFor ws ≡ true
+    stands-unless-refused r = go (standsFor ws) refl
+      where
+        go : (t : Bool) → standsFor ws ≡ t → t ≡ true
+        go true h = refl
+        go false h = absurd (glass-never-none (eqb (length m) places) (rw h at r))
+
     pub glass-shown :
         glassRefusal row column ws m ≡ 0 → glassCall row column ws m ≡ shownNumber (shownAt (chipOf ws .registers) m (ramRowOf (chipOf ws) row) column)
     unfolding glassCall glassOf
-    glass-shown r = go (standsFor ws) refl
+    glass-shown r = let h = stands-unless-refused r in rw (h, glass-of-chip h ∙ r)
+
+    -- 512 + g is given exactly where the glass shows level g
+    pub glass-level : (g : ℕ) → (glassCall row column ws m ≡ 512 + g) ↔ ((standsFor ws ≡ true) × (glassOf (chipOf ws) m row column ≡ shown.Level g))
+    unfolding glassCall
+    glass-level g = (go (standsFor ws) refl, λ w. rw (w .0, w .1))
       where
-        go : (t : Bool) → standsFor ws ≡ t → glassCall row column ws m ≡ shownNumber (shownAt (chipOf ws .registers) m (ramRowOf (chipOf ws) row) column)
-        go true h = rw (h, glass-of-chip h ∙ r)
-        go false h = absurd (glass-never-none (eqb (length m) places) (rw h at r))
+        none : (l : Bool) → refuse (not l || false) 1 then 2 ≡ 512 + g → ⊥
+        none true e = omega (arith, e)
+        none false e = omega (arith, e)
+
+        go :
+            (t : Bool) → standsFor ws ≡ t → cond t (shownNumber (glassOf (chipOf ws) m row column)) (noRecordFor (length m) places) ≡ 512 + g
+            → (standsFor ws ≡ true) × (glassOf (chipOf ws) m row column ≡ shown.Level g)
+        go true h e = (h, level-number (chipOf ws) m row column g .0 e)
+        go false h e = absurd (none (eqb (length m) places) e)
+
+    -- which is 0 to 62, or 64
+    pub glass-level-within : (g : ℕ) → glassCall row column ws m ≡ 512 + g → (g < 63) ⊎ (g ≡ 64)
+    glass-level-within g e = level-within (chipOf ws) m row column g (glass-level g .0 e .1)
+
+    -- 512 + 64 exactly where the grey register that the pixel uses holds 63
+    pub glass-64-when : (glassCall row column ws m ≡ 512 + 64) ↔ ((glassRefusal row column ws m ≡ 0) × LitBy (chipOf ws) m row column 63)
+    glass-64-when = (
+      λ e. let level = glass-level 64 .0 e in
+          let lit = level-64-when (chipOf ws) m row column .0 (level .1) in
+          (sym (glass-of-chip (level .0)) ∙ glass-exactly (chipOf ws) (length m) row column 0 .1 (lit .0), lit .1),
+      λ w. let stands = stands-unless-refused (w .0) in
+          let passed = glass-exactly (chipOf ws) (length m) row column 0 .0 (glass-of-chip stands ∙ w .0) in
+          glass-level 64 .1 (stands, level-64-when (chipOf ws) m row column .1 (passed, w .1)),
+    )
 
 -- ---- demand 3 and demand 2 by calls alone
 

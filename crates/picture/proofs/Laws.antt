@@ -1,28 +1,32 @@
--- What is promised of the picture, in one place: read this file first. The work stands in the file beside it.
+-- What is promised of the picture, in one place: read this file first. The work stands in the files beside it.
 use mathlib.Core.Path.{_≡_, refl, sym, ap, _∙_}
 use mathlib.Core.Bool.{Bool, true, false, not}
 use mathlib.Core.List.{List, _++_, append-assoc}
+use mathlib.Core.Logic.{_↔_}
 use Prim.Native.Nat.{ℕ, zero, suc, _+_, _*_, _-_, _≤_, _<_}
 use native.Mathlib.Omega.{arith}
 use lib.Dec.{eqb}
-use lib.ListN.{length, getD}
+use lib.ListN.{length}
 use Rattle.registers.specs.declared.Chip.{Chip}
 use Rattle.registers.specs.Record.{allowed}
 use Rattle.registers.specs.Refusals.{refuse, _then_}
 use Rattle.registers.specs.State.{places}
 use Rattle.glass.specs.declared.answer.Shown.the-variants as shown
-use Rattle.glass.specs.Glass.{glassOf, glassRefusal, placeRefusal, ramRowOf, shownBy, shownUnless}
-use Rattle.glass.specs.When.{OnGlass}
-use Rattle.glass.specs.Pixel.{Pixel, pixelOf, levelOf, placeAt}
-use Rattle.glass.proofs.Refusals.{is-on}
+use Rattle.glass.specs.Glass.{glassOf, glassRefusal, placeRefusal, shownBy, shownUnless}
+use Rattle.glass.specs.When.{OnGlass, pixelOn, LitBy}
+use Rattle.glass.specs.Pixel.{levelOf}
+use Rattle.glass.proofs.Refusals.{is-on, glass-exactly}
 use Rattle.glass.proofs.Views.{never-refused}
+use Rattle.glass.proofs.Laws.{level-within, level-64-when}
+use Rattle.text.specs.Text.{bytes}
 use Rattle.text.proofs.Finding.{count-append}
-use Rattle.print.specs.Printed.{partsFrom, wholeText, NumberSays}
+use Rattle.print.specs.Printed.{decimalOf, partsFrom, wholeText, NumberSays}
 use Rattle.print.proofs.Laws.{number-says}
 use Rattle.print.proofs.Writing.{parts-split, parts-count}
-use Rattle.picture.specs.Picture.{grey, colourOf, pixelText, header, pixelAt, pixelCount, pixmapOf, pixmapRefusal, pixmapNumber, pixmapCall}
+use Rattle.picture.specs.Picture.{grey, rgb, colourOf, pixelText, header, pixelAt, pixelCount, pixmapOf, pixmapRefusal, pixmapNumber, pixmapCall}
 use Rattle.picture.specs.Order.{LineAt}
 use Rattle.picture.proofs.Lines.{one-line, pixel-of}
+use Rattle.picture.proofs.Colours.{Told, told, colours-apart}
 -- how long the text is at most
 pub use Rattle.picture.proofs.Lines.{pixmap-bound}
 
@@ -57,8 +61,13 @@ module _ (c : Chip) (memory out : List ℕ) where
 pub white : grey 0 ≡ 255
 white = refl
 
-pub darker : (g h : ℕ) → g < h → h ≤ 63 → grey h < grey g
+pub darker : (g h : ℕ) → g < h → h ≤ 64 → grey h < grey g
 darker g h l m = omega arith
+
+-- level 64, which a grey register of 63 shows, is black
+pub black : pixelText (colourOf (shown.Level 64)) ≡ bytes "0 0 0\n"
+unfolding decimalOf
+black = refl
 
 -- ---- pixels
 
@@ -84,11 +93,31 @@ module _ (c : Chip) (memory : List ℕ) (row column : ℕ) (on : OnGlass row col
             before = count-append 10 header (partsFrom f 0 p) ∙ ap (λ (k : ℕ). 3 + k) (parts-count 10 f (one-line c memory) p 0);
           }
 
+  passed : pixmapRefusal c (length memory) ≡ 0 → glassRefusal c (length memory) row column ≡ 0
+  passed e = sym (as-the-glass c (length memory) row column on) ∙ e
+
   -- no pixel of a picture that is not refused is
   pub none-refused : pixmapRefusal c (length memory) ≡ 0 → (k : ℕ) → glassOf c memory row column ≡ shown.Refused k → ⊥
   unfolding glassOf
   none-refused e k r =
-      let ram : ℕ = ramRowOf c row in
-      let pixel : Pixel = pixelOf (c .registers) ram (getD memory (placeAt ram column) 0) in
-      let passed : glassRefusal c (length memory) row column ≡ 0 = sym (as-the-glass c (length memory) row column on) ∙ e in
-      never-refused (levelOf (c .registers)) pixel k (sym (ap (λ (x : ℕ). shownUnless x (shownBy (levelOf (c .registers)) pixel)) passed) ∙ r)
+      let level : ℕ → ℕ = levelOf (c .registers) in
+      let pixel = pixelOn c memory row column in
+      never-refused level pixel k (sym (ap (λ (x : ℕ). shownUnless x (shownBy level pixel)) (passed e)) ∙ r)
+
+  is-told : pixmapRefusal c (length memory) ≡ 0 → Told (glassOf c memory row column)
+  is-told e = told _ (none-refused e) (level-within c memory row column)
+
+  -- it is black exactly where the grey register that it uses holds 63
+  pub black-when : pixmapRefusal c (length memory) ≡ 0 → (colourOf (glassOf c memory row column) ≡ rgb 0 0 0) ↔ LitBy c memory row column 63
+  black-when e = (
+    λ black-there. level-64-when c memory row column .0 (colours-apart _ (shown.Level 64) (is-told e) (omega arith) black-there) .1,
+    λ lit. ap colourOf (level-64-when c memory row column .1 (glass-exactly c (length memory) row column 0 .0 (passed e), lit)),
+  )
+
+-- two pixels, of one picture or of two, have the same colour only if they show the same
+pub colour-tells :
+    (c d : Chip) (m w : List ℕ) (row column row′ column′ : ℕ) → OnGlass row column → OnGlass row′ column′
+    → pixmapRefusal c (length m) ≡ 0 → pixmapRefusal d (length w) ≡ 0
+    → colourOf (glassOf c m row column) ≡ colourOf (glassOf d w row′ column′) → glassOf c m row column ≡ glassOf d w row′ column′
+colour-tells c d m w row column row′ column′ on on′ e e′ same =
+    colours-apart _ _ (is-told c m row column on e) (is-told d w row′ column′ on′ e′) same

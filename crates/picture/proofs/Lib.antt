@@ -1,4 +1,5 @@
 pub mod Lines
+pub mod Colours
 pub mod CodeWays
 pub mod Laws
 pub mod Wrong

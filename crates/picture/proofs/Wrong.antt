@@ -1,7 +1,7 @@
 -- What wrong definitions of the picture would make false.
 use mathlib.Core.List.{List}
 use mathlib.Core.Path.{_≡_, sym, ap}
-use Prim.Native.Nat.{ℕ}
+use Prim.Native.Nat.{ℕ, _*_, _/_, _-_}
 use native.Mathlib.Omega.{arith}
 use lib.ListN.{getD}
 use Rattle.registers.specs.declared.Chip.{Chip}
@@ -16,6 +16,14 @@ not-height-first e = let first-digit : _≡_ {A = ℕ} 49 54 = ap (λ (l : List 
 -- greys that begin below white
 pub not-251 : grey 0 ≡ 251 → ⊥
 not-251 e = omega (arith, e)
+
+-- level 64 as light as level 63 would be
+pub not-3 : grey 64 ≡ 3 → ⊥
+not-3 e = omega (arith, e)
+
+-- greys by 63 steps
+pub not-by-63 : grey 62 ≡ 255 * (63 - 62) / 63 → ⊥
+not-by-63 e = omega (arith, e)
 
 -- rows from the bottom, or columns from the right: where two corners differ, the first pixel is that of row 0 and column 0
 pub not-from-elsewhere :

@@ -17,7 +17,7 @@ use Rattle.picture.specs.declared.Colour.{Colour}
 abbrev pub rgb : ℕ → ℕ → ℕ → Colour
 rgb r g b = record { red = r; green = g; blue = b }
 
--- level 0 is white, each further level a 64th darker
+-- level 0 is white, each further level a 64th darker, so that level 64 is black
 abbrev pub grey : ℕ → ℕ
 grey level = 255 * (64 - level) / 64
 

@@ -17,7 +17,7 @@ pub struct Colour {
     pub blue: u8,
 }
 
-// How light a level is. A level is 0 to 63; above 64 nothing is left.
+// How light a level is. A level is 64 at most, full black; above it nothing is left.
 fn light(level: u8) -> u8
     ensures { λ r. ⌜ r ≡ grey level ⌝ }
 {

@@ -1,9 +1,9 @@
-/* Every byte in a cell, every level in each grey register, in all four modes of a lit glass. */
+/* Every byte in a cell, every number in each grey register, in all four modes of a lit glass. */
 #include "glass_calls.h"
 #include "records.h"
 #include "themes.h"
 
-enum { MODES = 4, BANKS = 17, LEVELS = 64 };
+enum { MODES = 4, BANKS = 17, NUMBERS = 64 };
 
 static void lit_record(uint64_t *words, unsigned mode)
 {
@@ -43,16 +43,16 @@ static void try_bytes(unsigned mode)
         }
 }
 
-/* One register runs through all levels, the others stand somewhere else. */
+/* One register runs through all that it can hold, the others stand somewhere else. */
 static void try_levels(unsigned mode)
 {
     uint64_t words[MOST_WORDS];
     for (size_t grey = 0; grey < 4; grey++)
-        for (uint64_t level = 0; level < LEVELS; level++) {
+        for (uint64_t held = 0; held < NUMBERS; held++) {
             uint64_t bank = below(BANKS);
             uint64_t column = below(COLUMNS);
             lit_record(words, mode);
-            words[W_GS0 + grey] = level;
+            words[W_GS0 + grey] = held;
             glass_record(words);
             glass_byte(COLUMNS * bank + column, 0xE4);
             try_bank(words, bank, column);

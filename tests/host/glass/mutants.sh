@@ -36,11 +36,18 @@ mutant 'undriven before dark' \
     's/^    if (record\[PD\] || record\[DOF\])/    if (record[PS] \&\& !in_part(record[DP], shown_row)) return UNDRIVEN; &/'
 mutant 'PD does not darken' 's/record\[PD\] || //'
 mutant 'DOF does not darken' 's/ || record\[DOF\]//'
-mutant 'level 63 given as 64' \
-    's/return LEVEL + \(.*\);/return LEVEL + (\1 == 63 ? 64 : \1);/'
+mutant '63 shown as 63' 's/held == 63 ? 64 : held/held/'
+mutant '62 shown as 63' 's/held == 63 ? 64/held >= 62 ? held + 1/'
+mutant '62 shown as 64' 's/held == 63/held >= 62/'
+mutant '63 of register 0 shown as 63' \
+    's/level_of(\(record.*\));/(grey_register(record, value) ? level_of(\1) : record[GS0]);/'
+mutant '64 where the selected register holds 63' \
+    's/level_of(\(record.*\));/(record[GS0 + record[GR]] == 63 ? 64 : level_of(\1));/'
+mutant 'the register written back as 64' \
+    's/^    return LEVEL + /    if (record[GS3] == 63) ((uint64_t *)record)[GS3] = 64; &/'
 mutant 'level of the selected register' 's/GS0 + grey_register(record, value)/GS0 + record[GR]/'
 mutant 'number of the register given' \
-    's/LEVEL + record\[GS0 + grey_register(record, value)\]/LEVEL + grey_register(record, value)/'
+    's/level_of(record\[GS0 + grey_register(record, value)\])/grey_register(record, value)/'
 
 # Refusals.
 mutant 'row 67 shown' 's/row < ROWS \&\&/row < ROWS + 1 \&\&/'

@@ -1,22 +1,17 @@
-use Rattle.glass.proofs.CodeWays.{past-last}
-use native.Mathlib.Omega.{arith}
+use mathlib.Core.Path.{ap, _∙_}
+use borrow.Author.Needs.{needs}
+use Rattle.glass.specs.Pixel.{levelFor}
 use Rattle.glass.proofs.pixel.level.Statement.{statement}
 use Rattle.glass.proofs.pixel.level.Tie as tie
 
+held-by-requires : tie.Need-held-by-requires
+held-by-requires c κs = search needs
+
+level-for-requires : tie.Need-level-for-requires
+level-for-requires c κs = search needs
+
 returns : tie.Need-returns
-returns c = simp (c .match .keys1)
-
-returns-2 : tie.Need-returns-2
-returns-2 c = simp (c .match .keys2)
-
-returns-3 : tie.Need-returns-3
-returns-3 c = simp (c .match .keys3)
-
-returns-4 : tie.Need-returns-4
-returns-4 c = simp (c .match .keys4)
-
-returns-5 : tie.Need-returns-5
-returns-5 c = past-last (c .before .args .registers) (c .before .args .register) (omega arith)
+returns c = c .level-for .ensures ∙ ap levelFor (c .before .held-by .ensures)
 
 pub level-spec : {M : Type 1} → statement M
-level-spec = tie.close (tie.spec returns returns-2 returns-3 returns-4 returns-5)
+level-spec = tie.close (tie.spec held-by-requires level-for-requires returns)
