@@ -11,6 +11,7 @@ the model's. What is compared:
 - each list of samples/: the capture that draws it, with samples/expected/NAME.drawn;
 - in the documents, each code block whose first line begins with `$ `: what its commands print;
 - docs/glass.png: its pixels;
+- samples/picture: the character of every level, and of a dark and an undriven pixel;
 - in the documents, each name in back quotes: it has to stand in the project.
 """
 import glob
@@ -138,6 +139,17 @@ def compare_picture(sides):
     sides.compare("docs/glass.png", pixels(png), pixels(read("docs/glass.png")))
 
 
+def compare_characters(sides):
+    """A picture of one row: the levels that there are, 0 to 62 and 64, a dark and an undriven pixel."""
+    greys = [255 * (64 - level) // 64 for level in [*range(63), 64]]
+    colours = [(grey, grey, grey) for grey in greys] + [(0, 0, 96), (96, 64, 0)]
+    text = f"P3\n{len(colours)} 1\n255\n" + "".join("%d %d %d\n" % colour for colour in colours)
+    done = subprocess.run(["samples/picture", "text"], input=text.encode(), stdout=subprocess.PIPE,
+                          stderr=subprocess.STDOUT)
+    characters = "." * 16 + "-" * 16 + "+" * 16 + "#" * 16 + "du\n"
+    sides.compare("samples/picture text", done.stdout.decode(), characters)
+
+
 def main(words):
     making = words[:1] == ["--make"]
     words = words[making:]
@@ -149,6 +161,7 @@ def main(words):
     for path in DOCUMENTS:
         compare_document(sides, path)
     compare_picture(sides)
+    compare_characters(sides)
     wrong = sides.wrong + names.missing()
     if wrong:
         print("samples: DIFFERENT: " + "\n".join(wrong), file=sys.stderr)
