@@ -4,7 +4,7 @@ import project
 COMPILER = ["drawing", "compiler"]
 INSIDE = ["engine", "phases", "commands", "display"]
 # what the chip stands on, and the compiler may see
-SHARED = ["registers", "instruction_table", "text"]
+SHARED = ["registers", "instruction_table", "row_search", "text"]
 
 
 def reached(crates, name):

@@ -10,15 +10,11 @@ use lib.ListN.{length}
 use Rattle.registers.specs.Record.{allowed}
 use Rattle.registers.specs.Refusals.{refuse, _then_, isListedEvent}
 use Rattle.registers.specs.State.{State, places}
-use Rattle.registers.proofs.Below.{true-false, false-true}
+use Rattle.registers.proofs.Below.{or-true, true-false, false-true}
 use Rattle.engine.specs.Step.{entryRefusal, eventRefusal, refusalOf, accepted, stepOf}
 use Rattle.chip.specs.When.{ListedEvent, Lengths, When}
 
 -- ---- listed events
-
-or-true : (t : Bool) → t || true ≡ true
-or-true true = refl
-or-true false = refl
 
 listed-true : (e : ℕ) → ListedEvent e → isListedEvent e ≡ true
 listed-true e (inl h) = simp (le-leb e 260 (omega arith))

@@ -8,6 +8,6 @@ mod pages;
 pub fn command(registers: Registers, byte: u8) -> Registers
     ensures { λ r. ⌜ r ≡ commandOf byte registers ⌝ }
 {
-    let row = instruction_table::table::find(registers.h, byte);
+    let row = row_search::row_at(registers.h, byte);
     crate::pages::in_every_page(registers, row, byte)
 }

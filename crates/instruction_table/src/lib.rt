@@ -1,4 +1,4 @@
-// The instruction table as data: a byte's row, and the byte by which a row says what the registers hold.
+// The instruction table as data, and the byte by which a row says what the registers hold.
 
 pub mod encoding;
 pub mod table;

@@ -1,7 +1,6 @@
-// The instruction table as data, in the order of docs/INSTRUCTIONS.md, and the search for a byte's row.
+// The instruction table as data, in the order of docs/INSTRUCTIONS.md.
 ghost use mathlib.Core.Path.{_≡_};
 ghost use lib.ListN.{getD};
-ghost use Rattle.registers.specs.Table.{rowAt};
 ghost use Rattle.registers.specs.Data.{pages, codes, masks, partRows, partTargets, partLows, partWidths};
 use registers::entry::entry;
 
@@ -11,7 +10,8 @@ pub const ROWS: usize = 21;
 // The page of the rows that stand in every page.
 pub const EVERY_PAGE: u8 = 8;
 
-// Each row's page, its fixed bits with 0 at the open ones, and which bits are fixed.
+// Each row's page, its fixed bits with 0 at the open ones, and which bits are fixed. The search for a row names the last two as they stand, once for
+// all rows that it looks at.
 const PAGES: [u8; 21] = [
     8,
     8,
@@ -36,7 +36,7 @@ const PAGES: [u8; 21] = [
     4,
 ];
 
-const CODES: [u8; 21] = [
+pub const CODES: [u8; 21] = [
     0b0000_0000,
     0b0000_0001,
     0b0000_1000,
@@ -60,7 +60,7 @@ const CODES: [u8; 21] = [
     0b0100_0000,
 ];
 
-const FIXED: [u8; 21] = [
+pub const FIXED: [u8; 21] = [
     0b1111_1111,
     0b1111_1111,
     0b1111_1000,
@@ -220,24 +220,6 @@ const PART_WIDTHS: [u8; 29] = [
     1,
     1,
 ];
-
-// The number of the row that takes this byte in this page, or ROWS. The tables are laid out once, before the search: a constant
-// is laid out anew wherever it is named.
-pub fn find(page: u8, byte: u8) -> usize
-    ensures { λ r. ⌜ r ≡ rowAt page byte ⌝ }
-{
-    let pages = PAGES;
-    let fixed = FIXED;
-    let codes = CODES;
-    let mut i = 0;
-    while i < 21 {
-        if ((pages[i] == page) | (pages[i] == 8)) & (byte & fixed[i] == codes[i]) {
-            return i;
-        }
-        i += 1;
-    }
-    i
-}
 
 // Row by row: the page, the fixed bits with 0 at the open ones, and a 1 for each fixed bit. Past the last row each answers 0.
 pub fn page(row: usize) -> u8

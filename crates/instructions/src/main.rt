@@ -1,4 +1,4 @@
-// Prints the two tables of docs/INSTRUCTIONS.md from the chip's own data: the commands bit by bit, and the registers.
+// Prints the tables of docs/INSTRUCTIONS.md from the chip's own data: the commands bit by bit, the order of the search, and the registers.
 mod names;
 
 use instruction_table::table;
@@ -102,6 +102,38 @@ fn command_table() {
     }
 }
 
+// One place of an order, empty past its end.
+fn place(rows: &[u8], k: usize) {
+    if k < rows.len() {
+        text(b" ");
+        number(rows[k]);
+    }
+    text(b" |");
+}
+
+// No page has more than seven.
+fn order_line(page: u8, rows: &[u8]) {
+    text(b"| ");
+    number(page);
+    text(b" |");
+    let mut k = 0;
+    while k < 7 {
+        place(rows, k);
+        k += 1;
+    }
+    text(b"\n");
+}
+
+fn order_table() {
+    text(b"| Page | 1 | 2 | 3 | 4 | 5 | 6 | 7 |\n");
+    text(b"|---|---|---|---|---|---|---|---|\n");
+    order_line(0, &row_search::FUNCTION);
+    order_line(1, &row_search::DISPLAY);
+    order_line(2, &row_search::GENERATOR);
+    order_line(3, &row_search::GREY);
+    order_line(4, &row_search::SPECIAL);
+}
+
 // A part sets its own register; the part for the register that GR selects sets each of the four.
 fn sets(part: usize, register: usize) -> bool {
     let target = table::part_target(part);
@@ -154,5 +186,6 @@ fn register_table() {
 
 fn main() {
     command_table();
+    order_table();
     register_table();
 }

@@ -1,6 +1,6 @@
 -- A test that antt computes at every number below a bound, and the law that gives it at each.
 use mathlib.Core.Path.{_≡_, refl, sym, subst}
-use mathlib.Core.Bool.{Bool, true, false, _&&_}
+use mathlib.Core.Bool.{Bool, true, false, _&&_, _||_}
 use Prim.Native.Nat.{ℕ, zero, suc, _+_, _≤_, _<_}
 use native.Mathlib.Decide.{ℕ-discrete}
 use native.Mathlib.Omega.{arith}
@@ -31,6 +31,10 @@ true-false e = subst (λ (b : Bool). T b) e tt
 
 pub false-true : false ≡ true → ⊥
 false-true e = true-false (sym e)
+
+pub or-true : (a : Bool) → a || true ≡ true
+or-true true = refl
+or-true false = refl
 
 abbrev pub same : Bool → Bool → Bool
 same true b = b

@@ -6,8 +6,8 @@ use borrow.Author.Needs.{needs}
 use Rattle.commands.proofs.command.Statement.{statement}
 use Rattle.commands.proofs.command.Tie as tie
 
-find-requires : tie.Need-find-requires
-find-requires c κs = search needs
+row-at-requires : tie.Need-row-at-requires
+row-at-requires c κs = search needs
 
 in-every-page-requires : tie.Need-in-every-page-requires
 in-every-page-requires c κs = search needs
@@ -15,7 +15,7 @@ in-every-page-requires c κs = search needs
 returns : tie.Need-returns
 unfolding commandOf
 returns c =
-    c .in-every-page .ensures ∙ ap (λ (i : ℕ). taken (partsAt i) (c .before .before .args .byte) (c .before .before .args .registers)) (c .before .find .ensures)
+    c .in-every-page .ensures ∙ ap (λ (i : ℕ). taken (partsAt i) (c .before .before .args .byte) (c .before .before .args .registers)) (c .before .row-at .ensures)
 
 pub command-spec : {M : Type 1} → statement M
-command-spec = tie.close (tie.spec find-requires in-every-page-requires returns)
+command-spec = tie.close (tie.spec row-at-requires in-every-page-requires returns)

@@ -1,0 +1,5 @@
+pub mod Finding
+pub mod Looked
+pub mod Laws
+pub mod Wrong
+pub mod CodeWays
