@@ -8,6 +8,7 @@
 #define model_compile pcf8820_compile
 
 #define model_allowed stand_in_allowed
+#define model_row stand_in_row
 #define model_plain stand_in_plain
 #define plain_cells stand_in_plain_cells
 #define plain_registers stand_in_plain_registers

@@ -77,6 +77,8 @@ static const struct row rows[] = {
     { 4, "010tb000", "", { 0 } },                      /* row block swapping: nothing kept */
 };
 
+enum { ROWS = sizeof rows / sizeof rows[0] };
+
 /* What a command byte does: it gives these fields these values. */
 struct effect {
     uint8_t fields;
@@ -95,6 +97,11 @@ static bool matches(const char *pattern, unsigned byte)
             return false;
     }
     return true;
+}
+
+static bool takes(const struct row *row, int page, unsigned byte)
+{
+    return (row->page == page || row->page == EVERY_PAGE) && matches(row->pattern, byte);
 }
 
 /* The bits of the byte that stand under this letter, as a number. */
@@ -124,11 +131,18 @@ static void fill_effects(void)
 {
     for (int page = 0; page <= LAST_PAGE; page++)
         for (unsigned byte = 0; byte < 256; byte++)
-            for (size_t r = 0; r < sizeof rows / sizeof rows[0]; r++)
-                if ((rows[r].page == page || rows[r].page == EVERY_PAGE)
-                    && matches(rows[r].pattern, byte))
+            for (int r = 0; r < ROWS; r++)
+                if (takes(&rows[r], page, byte))
                     add_effect(&effects[page][byte], &rows[r], byte);
     effects_ready = true;
+}
+
+int model_row(int page, unsigned byte)
+{
+    int r = 0;
+    while (r < ROWS && !takes(&rows[r], page, byte))
+        r++;
+    return r;
 }
 
 static void take_command(struct chip *chip, uint8_t byte)

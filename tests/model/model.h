@@ -25,4 +25,8 @@ uint64_t model_run(uint64_t *record, size_t record_len,
 /* Whether these words stand for a chip's record. */
 bool model_allowed(const uint64_t *record, size_t record_len);
 
+/* The number of the row that takes the byte in this page, by the data sheet's order from 0; 21, the
+ * number of rows, where none does. */
+int model_row(int page, unsigned byte);
+
 #endif

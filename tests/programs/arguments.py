@@ -88,6 +88,12 @@ def two_files(sides):
             sides.same(["compare"] + words, CAPTURE)
 
 
+def no_arguments(sides):
+    """A program that reads nothing, and is given nothing or something."""
+    for words in ([], [""], ["0"], ["-"], ["0", "1"]):
+        sides.same(["search"] + words, CAPTURE)
+
+
 def wrong_calls(sides):
     """Too many words, none where pins are wanted, pins that are none."""
     with tempfile.TemporaryDirectory() as directory:
@@ -103,4 +109,4 @@ def wrong_calls(sides):
             sides.same(["draw", pins, path], b"")
 
 
-THEMES = [wrong_calls, two_files, files, large_files, relative_files, unreadable]
+THEMES = [no_arguments, wrong_calls, two_files, files, large_files, relative_files, unreadable]

@@ -189,6 +189,20 @@ mutant 'second file read where the first is bad' \
     's/^    if (!play(/    int byte = fgetc(second_file); check_input("compare", second_file); ungetc(byte, second_file); &/'
 mutant 'directory taken for an empty capture' 's/^    check_input.*//'
 
+model=search
+mutant 'page return looked at last' 's/return 1;/return 1 + order[page].rows;/'
+mutant 'count one short' 's/return 1 + (i + 1);/return 1 + i;/'
+mutant 'count one short where no row takes the byte' 's/return 1 + order/return order/'
+mutant 'search that goes on after a match' 's/return 1 + (i + 1);/return 1 + order[page].rows;/'
+mutant 'rows of another page' 's/order\[page\]/order[3]/'
+mutant 'Y before X' 's/{ 5, 4, 2/{ 4, 5, 2/'
+mutant 'NOP not looked at' 's/{ 5, { 5,/{ 4, { 5,/'
+mutant 'row block swapping not looked at' 's/{ 4, { 18, 19, 20, 0/{ 3, { 18, 19, 0/'
+mutant 'X 101 counted as a byte of no row' 's/if (order\[page\].row\[i\] == row)/if (order[page].row[i] == row \&\& !(row == 5 \&\& byte > 228))/'
+mutant 'byte 255 left out' 's/byte < BYTES/byte < BYTES - 1/'
+mutant 'page 4 left out' 's/page < PAGES/page < PAGES - 1/'
+mutant 'words behind the name passed over' 's/if (argc > 1)/if (0)/'
+
 model=program
 mutant 'message on standard output' 's/fprintf(stderr, "%s: ", program)/printf("%s: failed\\n", program)/'
 mutant 'status 0 for a wrong call' 's/exit(1)/exit(0)/'

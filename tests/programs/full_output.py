@@ -2,7 +2,7 @@
 
     full_output.py PROGRAMS
 
-PROGRAMS is the directory with the four programs. The model's are not held to this.
+PROGRAMS is the directory with the five programs. The model's are not held to this.
 """
 import os
 import subprocess
@@ -17,7 +17,7 @@ SAMPLE = os.path.join(os.path.dirname(os.path.abspath(__file__)), "../../samples
 # Many lines, so that a program that goes on would say it many times; and a refused input, which prints another line.
 CASES = ((["replay"], CAPTURE), (["replay"], b""), (["view"], CAPTURE), (["view"], b""),
          (["draw", "1"], lists.LIT + b"put\t5\t2\t167\n" * 100), (["draw", "1"], b"no list\n"),
-         (["compare", "/dev/stdin", SAMPLE], CAPTURE), (["compare", SAMPLE, "/dev/stdin"], b""))
+         (["compare", "/dev/stdin", SAMPLE], CAPTURE), (["compare", SAMPLE, "/dev/stdin"], b""), (["search"], b""))
 SECONDS = 60
 
 

@@ -1,8 +1,8 @@
-"""Holds the programs replay, draw, view and compare against the model's programs, byte by byte.
+"""Holds the programs replay, draw, view, compare and search against the model's programs, byte by byte.
 
     main.py [--status] PROGRAMS MODEL [quick GROUP...]
 
-PROGRAMS and MODEL are directories with the four programs. `--status` asks for a status that is not 0
+PROGRAMS and MODEL are directories with the five programs. `--status` asks for a status that is not 0
 where a call fails. `quick` takes a sample of the cases, of these groups only: arguments, captures,
 pairs, lists.
 """

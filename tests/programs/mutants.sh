@@ -11,7 +11,7 @@ cc=${CC:-gcc}
 python=$(python3 -c 'import sys; print(sys.executable)')
 out=${TESTS_OUT:-target/tests}/mutants/programs
 flags='-std=c11 -Itests/model -O1 -w'
-programs='replay view draw compare'
+programs='replay view draw compare search'
 
 # What the list of errors sets, and how many errors of it were met.
 model=
@@ -30,6 +30,7 @@ parts() {
     view) echo view capture program model glass ;;
     draw) echo draw program compile plain list model ;;
     compare) echo compare capture program model ;;
+    search) echo search program model ;;
     esac
 }
 
