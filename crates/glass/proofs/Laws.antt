@@ -1,23 +1,25 @@
 -- What is promised of the glass, in one place: read this file first. The work stands in the files beside it.
-use mathlib.Core.Path.{_≡_, sym, ap, ap₂, subst, _∙_}
+use mathlib.Core.Path.{_≡_, refl, sym, ap, ap₂, subst, _∙_}
 use mathlib.Core.Bool.{true}
 use mathlib.Core.List.{List}
-use mathlib.Core.Logic.{_⊎_, _↔_}
+use mathlib.Core.Logic.{_⊎_, _↔_, inl, inr}
 use Prim.Native.Nat.{ℕ, zero, suc, _+_, _/_, _%_, _-_, _≤_, _<_, zero-le}
 use native.Mathlib.Omega.{arith}
+use borrow.Author.Tests.{le-ltb}
 use lib.ListN.{length, getD}
 use Rattle.registers.specs.declared.Chip.{Chip}
 use Rattle.registers.specs.Places.{MX, MY}
 use Rattle.registers.specs.Record.{allowed}
 use Rattle.registers.specs.Refusals.{_then_, lengthRefusal}
 use Rattle.registers.specs.State.{places}
+use Rattle.glass.specs.declared.answer.Shown.{Shown}
 use Rattle.glass.specs.declared.answer.Shown.the-variants as shown
 use Rattle.glass.specs.declared.answer.Cell.the-variants as cell
 use Rattle.glass.specs.Pixel.{dark, uses, placeAt, pixelOf, heldBy, levelFor, levelOf}
 use Rattle.glass.specs.Answer.{shownNumber}
 use Rattle.glass.specs.Changed.{changed}
 use Rattle.glass.specs.Glass.{placeRefusal, glassRefusal, ramRowOf, cellUnless, cellOf, shownOf, shownAt, shownUnless, glassOf}
-use Rattle.glass.specs.When.{PlaceWhen, GlassWhen, pixelOn, LitBy}
+use Rattle.glass.specs.When.{PlaceWhen, GlassWhen, Told, pixelOn, LitBy}
 use Rattle.glass.proofs.Pixels.{ram-bound, place-of}
 use Rattle.glass.proofs.Refusals.{place-exactly, glass-exactly, when-bound}
 use Rattle.glass.proofs.Views.{changed-refusal, mirrored-refusal, flipped-row, my-bound, refused-by, refused-place-by, found-at, shown-through}
@@ -79,7 +81,7 @@ module _ (c : Chip) (m : List ℕ) (row column : ℕ) where
 
 module _ (c : Chip) (m : List ℕ) (row column : ℕ) where
   -- a level that is shown is that of the register used, and nothing was refused
-  level-used : (g : ℕ) → glassOf c m row column ≡ shown.Level g → GlassWhen c (length m) row column 0 × UsesLevel (levelOf (c .registers)) (pixelOn c m row column) g
+  pub level-used : (g : ℕ) → glassOf c m row column ≡ shown.Level g → GlassWhen c (length m) row column 0 × UsesLevel (levelOf (c .registers)) (pixelOn c m row column) g
   unfolding glassOf
   level-used g e =
       let through = shown-through (glassRefusal c (length m) row column) _ (shown.Level g) (never-refused (λ f. g) (uses 0)) e in
@@ -109,6 +111,26 @@ module _ (c : Chip) (m : List ℕ) (row column : ℕ) where
       let f : ℕ = found .1 .register in
       subst (λ (x : ℕ). (x < 63) ⊎ (x ≡ 64)) (found .1 .shows) (level-kinds (heldBy (c .registers) f) (held-bound c (found .0 .1) f))
 
+  pub level-bound : (g : ℕ) → glassOf c m row column ≡ shown.Level g → g ≤ 64
+  level-bound g e = go (level-within g e)
+    where
+      go : (g < 63) ⊎ (g ≡ 64) → g ≤ 64
+      go (inl h) = omega arith
+      go (inr h) = omega arith
+
+  -- what is not refused is told
+  pub tells : GlassWhen c (length m) row column 0 → Told (glassOf c m row column)
+  unfolding glassOf
+  tells passed = go (glassOf c m row column) refl
+    where
+      go : (s : Shown) → glassOf c m row column ≡ s → Told s
+      go (shown.Level g) e = level-bound g e
+      go shown.Dark e = tt
+      go shown.Undriven e = tt
+      go (shown.Refused k) e =
+          never-refused (levelOf (c .registers)) (pixelOn c m row column) k
+          (sym (rw (glass-exactly c (length m) row column 0 .1 passed)) ∙ e)
+
   -- 64 exactly where nothing is refused and the register used holds 63; a lower one exactly where it holds that number
   pub level-64-when : (glassOf c m row column ≡ shown.Level 64) ↔ (GlassWhen c (length m) row column 0 × LitBy c m row column 63)
   level-64-when = level-exactly 63 (omega arith)
@@ -122,13 +144,14 @@ module _ (c : Chip) (m : List ℕ) (row column : ℕ) where
   pub one-of-four : (n : ℕ) (lit : LitBy c m row column n) → lit .register ≤ 3
   one-of-four n lit = uses-one-of-four (c .registers) (ramRowOf c row) _ (lit .register) (lit .used)
 
+  -- no refusal is above 5
+  pub refused-to-5 : (k : ℕ) → glassOf c m row column ≡ shown.Refused k → k ≤ 5
+  refused-to-5 zero e = zero-le
+  refused-to-5 (suc k) e = when-bound c (length m) row column (suc k) (glass-refused-when c m row column k .0 e)
+
   -- 512 + g is the number of level g alone
   pub level-number : (g : ℕ) → (shownNumber (glassOf c m row column) ≡ 512 + g) ↔ (glassOf c m row column ≡ shown.Level g)
   level-number g = (number-of-level _ g refused-to-5, λ e. rw e)
-    where
-      refused-to-5 : (k : ℕ) → glassOf c m row column ≡ shown.Refused k → k ≤ 5
-      refused-to-5 zero e = zero-le
-      refused-to-5 (suc k) e = when-bound c (length m) row column (suc k) (glass-refused-when c m row column k .0 e)
 
 -- two grey registers, of one chip or of two, show the same level exactly if they hold the same number
 pub same-level :
@@ -162,6 +185,22 @@ one-byte c m n row column p l e h =
     let at-p : placeAt (ramRowOf c row) column ≡ p = found-at (placeRefusal c row column) _ p e .1 in
     ap₂ (λ (k byte : ℕ). shownUnless (glassRefusal c k row column) (shownOf (c .registers) (ramRowOf c row) byte)) l
     (ap (λ (q : ℕ). getD m q 0) at-p ∙ h ∙ sym (ap (λ (q : ℕ). getD n q 0) at-p))
+
+-- ---- one row
+
+-- a pixel is refused where the first of its row is, by the same number
+pub as-its-row : (c : Chip) (n row column : ℕ) → column ≤ 100 → glassRefusal c n row column ≡ glassRefusal c n row 0
+unfolding glassRefusal placeRefusal
+as-its-row c n row column h = rw (le-ltb 100 column h)
+
+-- ---- one set of registers
+
+-- two allowed records with the same registers show the same, whatever else they hold
+pub registers-alone :
+    (c d : Chip) (m : List ℕ) (row column : ℕ) → allowed c ≡ true → allowed d ≡ true → c .registers ≡ d .registers
+    → glassOf c m row column ≡ glassOf d m row column
+unfolding glassOf glassRefusal placeRefusal
+registers-alone c d m row column a b e = rw (a, b, e)
 
 -- ---- mirrors
 

@@ -7,6 +7,8 @@ use lib.ListN.{getD}
 use Rattle.registers.specs.declared.Chip.{Chip}
 use Rattle.registers.specs.Record.{allowed}
 use Rattle.registers.specs.State.{places}
+use Rattle.glass.specs.declared.answer.Shown.{Shown}
+use Rattle.glass.specs.declared.answer.Shown.the-variants as shown
 use Rattle.glass.specs.Pixel.{Pixel, uses, placeAt, pixelOf, heldBy}
 use Rattle.glass.specs.Glass.{ramRowOf}
 
@@ -45,7 +47,14 @@ PlaceWhen c row column k = getD (placeConditions c row column) k ⊥
 abbrev pub GlassWhen : Chip → ℕ → ℕ → ℕ → ℕ → Type 0
 GlassWhen c memoryLength row column k = getD (glassConditions c memoryLength row column) k ⊥
 
--- ---- levels
+-- ---- what is shown
+
+-- where nothing is refused: dark, undriven, or a level of at most 64
+abbrev pub Told : Shown → Type 0
+Told (shown.Level g) = g ≤ 64
+Told shown.Dark = Unit {0}
+Told shown.Undriven = Unit {0}
+Told (shown.Refused n) = ⊥
 
 -- the pixel at a row and column, of the byte that stands there
 abbrev pub pixelOn : Chip → List ℕ → ℕ → ℕ → Pixel

@@ -1,29 +1,12 @@
 -- The colours of what a picture shows: no two of them are the same.
 use mathlib.Core.Path.{_≡_, refl, sym, ap}
-use mathlib.Core.Logic.{_⊎_, inl, inr}
-use Prim.Native.Nat.{ℕ, _≤_, _<_}
+use Prim.Native.Nat.{ℕ, _≤_}
 use native.Mathlib.Omega.{arith}
 use Rattle.glass.specs.declared.answer.Shown.{Shown}
 use Rattle.glass.specs.declared.answer.Shown.the-variants as shown
+use Rattle.glass.specs.When.{Told}
 use Rattle.picture.specs.declared.Colour.{Colour}
 use Rattle.picture.specs.Picture.{grey, colourOf}
-
--- what has a colour of its own: levels up to 64, dark and undriven
-abbrev pub Told : Shown → Type 0
-Told (shown.Level g) = g ≤ 64
-Told shown.Dark = Unit {0}
-Told shown.Undriven = Unit {0}
-Told (shown.Refused n) = ⊥
-
-pub told : (s : Shown) → ((k : ℕ) → s ≡ shown.Refused k → ⊥) → ((g : ℕ) → s ≡ shown.Level g → (g < 63) ⊎ (g ≡ 64)) → Told s
-told (shown.Level g) refused level = go (level g refl)
-  where
-    go : (g < 63) ⊎ (g ≡ 64) → g ≤ 64
-    go (inl h) = omega arith
-    go (inr e) = omega arith
-told shown.Dark refused level = tt
-told shown.Undriven refused level = tt
-told (shown.Refused n) refused level = refused n refl
 
 grey-apart : (g h : ℕ) → g ≤ 64 → h ≤ 64 → grey g ≡ grey h → g ≡ h
 grey-apart g h lg lh e = omega arith

@@ -1,5 +1,5 @@
 -- What is promised of the picture, in one place: read this file first. The work stands in the files beside it.
-use mathlib.Core.Path.{_≡_, refl, sym, ap, _∙_}
+use mathlib.Core.Path.{_≡_, refl, sym, ap, subst, _∙_}
 use mathlib.Core.Bool.{Bool, true, false, not}
 use mathlib.Core.List.{List, _++_, append-assoc}
 use mathlib.Core.Logic.{_↔_}
@@ -12,12 +12,10 @@ use Rattle.registers.specs.Record.{allowed}
 use Rattle.registers.specs.Refusals.{refuse, _then_}
 use Rattle.registers.specs.State.{places}
 use Rattle.glass.specs.declared.answer.Shown.the-variants as shown
-use Rattle.glass.specs.Glass.{glassOf, glassRefusal, placeRefusal, shownBy, shownUnless}
-use Rattle.glass.specs.When.{OnGlass, pixelOn, LitBy}
-use Rattle.glass.specs.Pixel.{levelOf}
+use Rattle.glass.specs.Glass.{glassOf, glassRefusal, placeRefusal}
+use Rattle.glass.specs.When.{OnGlass, Told, LitBy}
 use Rattle.glass.proofs.Refusals.{is-on, glass-exactly}
-use Rattle.glass.proofs.Views.{never-refused}
-use Rattle.glass.proofs.Laws.{level-within, level-64-when}
+use Rattle.glass.proofs.Laws.{tells, level-64-when}
 use Rattle.text.specs.Text.{bytes}
 use Rattle.text.proofs.Finding.{count-append}
 use Rattle.print.specs.Printed.{decimalOf, partsFrom, wholeText, NumberSays}
@@ -26,7 +24,7 @@ use Rattle.print.proofs.Writing.{parts-split, parts-count}
 use Rattle.picture.specs.Picture.{grey, rgb, colourOf, pixelText, header, pixelAt, pixelCount, pixmapOf, pixmapRefusal, pixmapNumber, pixmapCall}
 use Rattle.picture.specs.Order.{LineAt}
 use Rattle.picture.proofs.Lines.{one-line, pixel-of}
-use Rattle.picture.proofs.Colours.{Told, told, colours-apart}
+use Rattle.picture.proofs.Colours.{colours-apart}
 -- how long the text is at most
 pub use Rattle.picture.proofs.Lines.{pixmap-bound}
 
@@ -96,16 +94,12 @@ module _ (c : Chip) (memory : List ℕ) (row column : ℕ) (on : OnGlass row col
   passed : pixmapRefusal c (length memory) ≡ 0 → glassRefusal c (length memory) row column ≡ 0
   passed e = sym (as-the-glass c (length memory) row column on) ∙ e
 
+  is-told : pixmapRefusal c (length memory) ≡ 0 → Told (glassOf c memory row column)
+  is-told e = tells c memory row column (glass-exactly c (length memory) row column 0 .0 (passed e))
+
   -- no pixel of a picture that is not refused is
   pub none-refused : pixmapRefusal c (length memory) ≡ 0 → (k : ℕ) → glassOf c memory row column ≡ shown.Refused k → ⊥
-  unfolding glassOf
-  none-refused e k r =
-      let level : ℕ → ℕ = levelOf (c .registers) in
-      let pixel = pixelOn c memory row column in
-      never-refused level pixel k (sym (ap (λ (x : ℕ). shownUnless x (shownBy level pixel)) (passed e)) ∙ r)
-
-  is-told : pixmapRefusal c (length memory) ≡ 0 → Told (glassOf c memory row column)
-  is-told e = told _ (none-refused e) (level-within c memory row column)
+  none-refused e k r = subst Told r (is-told e)
 
   -- it is black exactly where the grey register that it uses holds 63
   pub black-when : pixmapRefusal c (length memory) ≡ 0 → (colourOf (glassOf c memory row column) ≡ rgb 0 0 0) ↔ LitBy c memory row column 63

@@ -3,12 +3,12 @@ use mathlib.Core.Path.{_≡_, refl, sym, ap, _∙_, subst}
 use mathlib.Core.Bool.{Bool, true, false, cond}
 use mathlib.Core.List.{List, [], _∷_, _++_, append-assoc}
 use Prim.Native.Nat.{ℕ, zero, suc, _+_, _*_, _-_, _≤_, _<_}
-use native.Mathlib.Nat.{add-zero, suc-add, add-suc, suc-mul}
+use native.Mathlib.Nat.{add-zero, zero-add, suc-add, add-suc, zero-mul, suc-mul}
 use native.Mathlib.Omega.{arith}
 use borrow.Author.Tests.{le-leb, leb-true, leb-false}
 use lib.Dec.{leb}
-use lib.ListN.{length, take, drop, set, length-append, length-set}
-use lib.Seq.{sets, set-out, length-sets, sets-eq, take-at, length-take-le}
+use lib.ListN.{length, getD, take, drop, set, length-append, length-set, List·getD-append}
+use lib.Seq.{sets, set-out, length-sets, sets-eq, take-at, take-all, length-take-le, getD-append-add}
 use Rattle.text.specs.Text.{countOf}
 use Rattle.text.proofs.Finding.{count-append}
 use Rattle.print.specs.Printed.{top, placeAfter, Wrote, partsFrom}
@@ -118,6 +118,27 @@ parts-bound f b t h (suc n) k e =
       parts-bound f b t h n (k + 1) (omega arith),
     )
 
+-- parts of b bytes each: how long they are, and byte j of part i
+module _ (f : ℕ → List ℕ) (b : ℕ) (all : (k : ℕ) → length (f k) ≡ b) where
+  pub parts-length : (n k : ℕ) → length (partsFrom f k n) ≡ n * b
+  parts-length zero k = sym (zero-mul b)
+  parts-length (suc n) k = omega (arith, suc-mul n b, length-append (f k) (partsFrom f (k + 1) n), all k, parts-length n (k + 1))
+
+  pub parts-at : (n k i j : ℕ) → i < n → j < b → getD (partsFrom f k n) (i * b + j) 0 ≡ getD (f (k + i)) j 0
+  parts-at zero k i j h l = absurd (omega arith)
+  parts-at (suc n) k zero j h l =
+      let here : 0 * b + j ≡ j = omega (arith, zero-mul b) in
+      ap (λ (x : ℕ). getD (f k ++ partsFrom f (k + 1) n) x 0) here
+      ∙ List·getD-append (f k) (partsFrom f (k + 1) n) 0 j (omega (arith, all k))
+      ∙ ap (λ (x : ℕ). getD (f x) j 0) (sym (add-zero k))
+  parts-at (suc n) k (suc i) j h l =
+      let past : suc i * b + j ≡ length (f k) + (i * b + j) = omega (arith, suc-mul i b, all k) in
+      let next : k + 1 + i ≡ k + suc i = omega arith in
+      ap (λ (x : ℕ). getD (f k ++ partsFrom f (k + 1) n) x 0) past
+      ∙ getD-append-add (f k) (partsFrom f (k + 1) n) (i * b + j) 0
+      ∙ parts-at n (k + 1) i j (omega arith) l
+      ∙ ap (λ (x : ℕ). getD (f x) j 0) next
+
 -- the n parts before part p, that part, and the m after it
 pub parts-split :
     (f : ℕ → List ℕ) (n m k p t : ℕ) → p ≡ k + n → t ≡ n + suc m → partsFrom f k t ≡ partsFrom f k n ++ (f p ++ partsFrom f (p + 1) m)
@@ -140,3 +161,8 @@ pub wrote-read : {l m : List ℕ} {i j : ℕ} {xs : List ℕ} → i + length xs 
 wrote-read {l} {m} {i} {j} {xs} h w =
     ap (λ (k : List ℕ). take (i + length xs) k) (w .list ∙ sets-eq xs l i h)
     ∙ take-at (take i l ++ xs) (drop (i + length xs) l) (i + length xs) (omega (arith, length-append (take i l) xs, length-take-le i l (omega arith)))
+
+-- a buffer that is as long as what was written from its start on is what was written
+pub wrote-all : {l m xs : List ℕ} {j : ℕ} → length xs ≡ length l → Wrote l 0 xs m j → m ≡ xs
+wrote-all {l} {m} {xs} e w =
+    sym (take-all (0 + length xs) m (omega (arith, wrote-length w, zero-add (length xs)))) ∙ wrote-read (omega (arith, zero-add (length xs))) w
