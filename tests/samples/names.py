@@ -72,8 +72,9 @@ def stands_on():
 
 
 def layers():
-    """The same by the diagram of docs/ARCHITECTURE.md: the words from the fifteenth character on."""
+    """The same by the diagram of docs/ARCHITECTURE.md: the words from the fifteenth character on. A line goes on after blanks."""
     diagram = re.search(r"^```\n(.*?)^```", read(ARCHITECTURE), flags=re.S | re.M).group(1)
+    diagram = re.sub(r"\n {30,}", " ", diagram)
     rows = [line[15:].split() for line in diagram.splitlines() if not line.startswith(" -")]
     return {row[0]: row[1:] for row in rows}
 

@@ -5,5 +5,6 @@ pub mod Streams
 pub mod Observed
 pub mod Chips
 pub mod Glasses
+pub mod Pulses
 pub mod Answers
 pub mod Captures

@@ -27,6 +27,10 @@ pub use Rattle.glass.specs.declared.answer.Cell.{Cell}
 pub use Rattle.glass.specs.Answer.{shownNumber, cellNumber}
 pub use Rattle.glass.specs.Pixel.{Pixel, dark, undriven, uses}
 pub use Rattle.glass.specs.When.{pixelOn}
+pub use Rattle.pulses.specs.declared.answer.Pulses.{Pulses}
+pub use Rattle.pulses.specs.Answer.{pulsesNumber}
+pub use Rattle.pulses.specs.Pulse.{pulsesOf}
+pub use Rattle.pulses.specs.Row.{PulseRow}
 -- these are opened where a case is computed
 unfoldable pub use Rattle.registers.specs.Record.{allowed}
 unfoldable pub use Rattle.registers.specs.Table.{rowAt}
@@ -45,5 +49,6 @@ unfoldable pub use Rattle.drawing.specs.Plain.{filled, setTo}
 unfoldable pub use Rattle.drawing.specs.Stream.{lineEvents, stream}
 unfoldable pub use Rattle.compiler.specs.Compile.{compileOf}
 unfoldable pub use Rattle.glass.specs.Glass.{placeRefusal, glassRefusal, cellOf, glassOf}
+unfoldable pub use Rattle.pulses.specs.Row.{rowBytes, rowRefusal, rowOf}
 unfoldable pub use Rattle.capture_lines.specs.Line.{pinsOf}
 unfoldable pub use Rattle.capture.specs.Replay.{replayOf}

@@ -7,5 +7,6 @@ pub mod Observed
 pub mod Behaviour
 pub mod Chips
 pub mod Glasses
+pub mod Pulses
 pub mod Answers
 pub mod Captures

@@ -1,14 +1,16 @@
--- Document 01, "Worked and marked": the marked cases, one table. Each is a test of the definitions that antt computes.
+-- Document 01, "Worked and marked", and what document 02 adds to it: the marked cases, one table. Each is a test of the definitions that antt computes.
 use mathlib.Core.Bool.{Bool, true, false, cond, _&&_}
 use mathlib.Core.List.{List, [], _∷_, _++_}
 use Prim.Native.Nat.{ℕ, suc, _+_, _*_}
 use Prim.Native.String.{String}
 use lib.Dec.{leb, eqb}
-use Rattle.cases_proved.specs.Cited.{getD, length, replicate, Registers, Chip, DO, PD, «V», D, E, MX, MY, PS, X, Y, DP, DOF}
+use Rattle.cases_proved.specs.Cited.{getD, length, replicate, Registers, Chip, DO, PD, «V», D, E, MX, MY, PS, X, Y, DP, GS3, DOF}
 use Rattle.cases_proved.specs.Cited.{values, inPhase, State, state, EndlessBytes, stepOf}
 use Rattle.cases_proved.specs.Cited.{bytes, sameBytes, Numbers, Result, compileOf, numbersOf}
-use Rattle.cases_proved.specs.Cited.{Pixel, dark, undriven, uses, shownNumber, pixelOn, glassOf}
+use Rattle.cases_proved.specs.Cited.{Pixel, dark, undriven, uses, shownNumber, pixelOn, glassOf, pulsesNumber, pulsesOf}
 use Rattle.cases_proved.specs.Start.{Setting, _is_, chipWith, zeros, oneCell, viewed}
+use Rattle.cases_proved.specs.Glasses.{mode01}
+use Rattle.cases_proved.specs.Pulses.{told}
 
 pub data Case : Type 0 where
   -- after reset, with these registers set, a display byte leaves these
@@ -21,6 +23,8 @@ pub data Case : Type 0 where
   greys : List Setting → ℕ → List ℕ → Case
   -- after reset, with these registers set, these rows of the glass are driven, and those are not
   driven : List Setting → List ℕ → List ℕ → Case
+  -- in mode 01 with the display on, where every pixel uses grey register 3, and with this number in it, a pixel gets these pulses in frames 0 to 3
+  pulsed : ℕ → ℕ → ℕ → ℕ → ℕ → Case
   -- after reset, with these registers set, this list compiles to these events, which take so many clocks
   streamed : List Setting → String → List ℕ → ℕ → Case
   -- after reset, this list's first line gives this number, 0 where it is accepted
@@ -81,6 +85,7 @@ holds (command before b after) = agrees after (stepOf b (prepared before false) 
 holds (stored before b k n) = eqb (getD (stepOf b (prepared before true) .state .memory) k 0) n
 holds (greys before row gs) = useThese (viewed before) row gs
 holds (driven before rows others) = allDriven (viewed before) rows && noneDriven (viewed before) others
+holds (pulsed held p₀ p₁ p₂ p₃) = eqb (pulsesNumber (pulsesOf (viewed (GS3 is held ∷ mode01)) oneCell 8 5)) (told p₀ p₁ p₂ p₃)
 holds (streamed before text es clocks) = isStream (compiled before text (length es + 1)) es clocks
 holds (answeredBy text k) = isAnswered (numbersOf (compiled [] text 100 .answer)) k
 
@@ -120,4 +125,8 @@ marked =
     ∷ stored (DO is 0 ∷ Y is 16 ∷ []) 0xFF (101 * 16) 0x3F
     -- PS 1, DP 111, MY 1: glass rows 3..10 driven, 2 and 11 not
     ∷ driven (PD is 0 ∷ DOF is 0 ∷ PS is 1 ∷ DP is 0b111 ∷ MY is 1 ∷ []) (3 ∷ 4 ∷ 5 ∷ 6 ∷ 7 ∷ 8 ∷ 9 ∷ 10 ∷ []) (2 ∷ 11 ∷ [])
+    -- document 02, W4: level 17 is 4, 4, 4, 5; 30 is 7, 8, 7, 8; a register of 63 is 16 four times
+    ∷ pulsed 17 4 4 4 5
+    ∷ pulsed 30 7 8 7 8
+    ∷ pulsed 63 16 16 16 16
     ∷ []

@@ -7,7 +7,7 @@ use registers::Chip;
 
 pub mod answer;
 mod pixel;
-mod refusal;
+pub mod refusal;
 
 // What a row and column of the glass show of the display memory.
 pub fn glass(chip: Chip, memory: &[u8], row: usize, column: usize) -> Shown

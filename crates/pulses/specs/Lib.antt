@@ -1,0 +1,5 @@
+pub mod Pulse
+pub mod Answer
+pub mod Row
+pub mod When
+pub mod Frames
