@@ -1,4 +1,5 @@
-/* A small host: it draws, plays the drawing on a chip, and asks what the glass shows and who wrote it.
+/* A small host: it draws, plays the drawing on a chip, and asks what the glass shows, who wrote it,
+ * and how the four frames build it.
  *
  * Build and run, from the project's root:
  *
@@ -12,6 +13,10 @@
 #include <string.h>
 
 enum { WORDS = 35, PLACES = 1717, MOST_EVENTS = 1000 };
+
+enum { COLUMNS = 101, FRAMES = 4, MOST_PULSE = 16 };
+
+enum { DARK = 256, UNDRIVEN = 257 };
 
 /* All that a chip is made of. The host lends it to each call. */
 static uint64_t record[WORDS];
@@ -91,6 +96,37 @@ static void print_writer(uint64_t row, uint64_t column)
         printf("event %llu, byte %u\n", (unsigned long long)writer, events[writer - 1]);
 }
 
+/* A number below 2^32 says why there are no pulses. */
+static void print_pulses(uint64_t row, uint64_t column)
+{
+    uint64_t pulses = pcf8820_pulses(record, WORDS, memory, PLACES, row, column);
+    if (pulses < DARK)
+        must("pulses", pulses);
+    printf("row %llu, column %llu: ", (unsigned long long)row, (unsigned long long)column);
+    if (pulses == DARK || pulses == UNDRIVEN) {
+        printf("%s\n", pulses == DARK ? "dark" : "undriven");
+        return;
+    }
+    printf("pulses");
+    for (int frame = 0; frame < FRAMES; frame++)
+        printf(" %u", (unsigned)(pulses >> 8 * frame & 255));
+    printf("\n");
+}
+
+/* How wide all pulses of a row are together, frame by frame. Pixels that get none have 254 or 255. */
+static void print_frames(uint64_t row)
+{
+    uint8_t pulses[COLUMNS * FRAMES];
+    unsigned sums[FRAMES] = { 0 };
+    must("pulse_row",
+         pcf8820_pulse_row(record, WORDS, memory, PLACES, row, pulses, sizeof pulses));
+    for (size_t i = 0; i < sizeof pulses; i++)
+        if (pulses[i] <= MOST_PULSE)
+            sums[i % FRAMES] += pulses[i];
+    printf("row %llu: pulses %u %u %u %u\n", (unsigned long long)row, sums[0], sums[1], sums[2],
+           sums[3]);
+}
+
 int main(void)
 {
     must("reset", pcf8820_reset(record, WORDS, 0));
@@ -99,5 +135,8 @@ int main(void)
     print_writer(5, 12);
     print_writer(8, 6);
     print_writer(0, 0);
+    print_pulses(6, 12);
+    print_pulses(8, 6);
+    print_frames(6);
     return 0;
 }

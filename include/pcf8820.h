@@ -121,12 +121,13 @@ uint64_t pcf8820_run(uint64_t *record, size_t record_len,
 
 /* The glass
  *
- * It has 67 rows and 101 columns. The two calls only look at what they are lent. Refusals, the lowest
- * first:
+ * It has 67 rows and 101 columns. Its calls only look at the record and the memory. Refusals, the
+ * lowest first:
  *
- *   1  the memory is not 1,717 long
- *   2  the record is not allowed
- *   5  the row is above 66 or the column above 100 */
+ *   1   the memory is not 1,717 long
+ *   2   the record is not allowed
+ *   5   the row is above 66 or the column above 100
+ *   11  the row buffer of pcf8820_pulse_row is not 404 long */
 
 /* What a row and column of the glass show.
  *
@@ -146,6 +147,34 @@ uint64_t pcf8820_glass(const uint64_t *record, size_t record_len,
  *   2, 5     refused
  *   512 + p  the place p, 0..1716 */
 uint64_t pcf8820_place(const uint64_t *record, size_t record_len, uint64_t row, uint64_t column);
+
+/* The pulses of a pixel: how wide it is driven in each of the four frames that build its level. Frame
+ * k, 0..3, gets (k + 1) * g / 4 - k * g / 4, each quotient's whole part, of the level g that
+ * pcf8820_glass gives; the frames go on as 0, 1, 2, 3, 0, 1 and so on. No pulse is above 16, and those
+ * of any four frames on end add up to the level, as long as the registers and the memory stay as they
+ * are.
+ *
+ * Gives
+ *   1, 2, 5  refused
+ *   256      dark, no pulses
+ *   257      undriven, no pulses
+ *   2^32 + p0 + 2^8 * p1 + 2^16 * p2 + 2^24 * p3
+ *            the pulses p0 to p3 of frames 0 to 3: of this number n, n >> 32 is 1, and
+ *            n >> 8 * k & 255 is the pulse of frame k */
+uint64_t pcf8820_pulses(const uint64_t *record, size_t record_len,
+                        const uint8_t *memory, size_t memory_len,
+                        uint64_t row, uint64_t column);
+
+/* The same for a whole row of the glass. The pixel of column c gets the bytes 4c to 4c + 3 of out, the
+ * pulses of frames 0 to 3; or 254 four times if it is dark, 255 four times if it is undriven, which no
+ * pulse is.
+ *
+ * Gives
+ *   0            out was written, all of it
+ *   1, 2, 5, 11  refused, out is unchanged */
+uint64_t pcf8820_pulse_row(const uint64_t *record, size_t record_len,
+                           const uint8_t *memory, size_t memory_len,
+                           uint64_t row, uint8_t *out, size_t out_len);
 
 /* Drawing lists
  *

@@ -12,7 +12,7 @@
 cc=${CC:-gcc}
 out=${TESTS_OUT:-target/tests}/mutants/$tests
 flags='-std=c11 -Iinclude -Itests/model -Itests/host'
-parts='model glass list plain compile'
+parts='model glass pulses list plain compile'
 mutants=0
 
 stop() {

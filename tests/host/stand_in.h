@@ -5,6 +5,8 @@
 #define model_run pcf8820_run
 #define model_glass pcf8820_glass
 #define model_place pcf8820_place
+#define model_pulses pcf8820_pulses
+#define model_pulse_row pcf8820_pulse_row
 #define model_compile pcf8820_compile
 
 #define model_allowed stand_in_allowed

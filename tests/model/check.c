@@ -5,6 +5,7 @@
 #include "lists.h"
 #include "model.h"
 #include "plain.h"
+#include "pulses.h"
 #include "records.h"
 #include "words.h"
 
@@ -13,6 +14,8 @@
 #include <string.h>
 
 enum { START = 256, STOP = 257, NOTHING = 256, ACK = 257, LEVEL = 512, MOST_EVENTS = 1 << 20 };
+
+static const uint64_t LIT = (uint64_t)1 << 32;
 
 /* One word more than a record has: the random records come with noise behind them. */
 struct chip {
@@ -137,6 +140,11 @@ static uint64_t shown(const struct chip *chip, uint64_t row, uint64_t column)
     return model_glass(chip->record, WORDS, chip->memory, PLACES, row, column);
 }
 
+static uint64_t pulses_of(const struct chip *chip)
+{
+    return model_pulses(chip->record, WORDS, chip->memory, PLACES, 8, 5);
+}
+
 static void check_registers(unsigned mode, const unsigned *registers)
 {
     struct chip chip = lit_chip(mode);
@@ -169,6 +177,29 @@ static void check_levels(void)
     for (uint64_t held = 0; held < 64; held++) {
         chip.record[GS3] = held;
         require(shown(&chip, 8, 5) == LEVEL + (held < 63 ? held : 64), "a level");
+    }
+}
+
+/* Document 02, W4: the pulses that it gives, frame 0 first. */
+static void check_marked_pulses(uint64_t held, uint64_t p0, uint64_t p1, uint64_t p2, uint64_t p3)
+{
+    struct chip chip = lit_chip(1);
+    chip.record[GS3] = held;
+    require(pulses_of(&chip) == (LIT | p3 << 24 | p2 << 16 | p1 << 8 | p0), "marked pulses");
+}
+
+/* And a round adds up to the level. */
+static void check_pulses(void)
+{
+    struct chip chip = lit_chip(1);
+    check_marked_pulses(17, 4, 4, 4, 5);
+    check_marked_pulses(30, 7, 8, 7, 8);
+    check_marked_pulses(63, 16, 16, 16, 16);
+    for (uint64_t held = 0; held < 64; held++) {
+        chip.record[GS3] = held;
+        uint64_t all = pulses_of(&chip);
+        uint64_t sum = (all & 255) + (all >> 8 & 255) + (all >> 16 & 255) + (all >> 24 & 255);
+        require(all >> 32 == 1 && LEVEL + sum == shown(&chip, 8, 5), "the sum of a round");
     }
 }
 
@@ -277,6 +308,7 @@ int main(void)
     check_marked_refusal();
     check_marked_pixels();
     check_levels();
+    check_pulses();
     play_starts();
     play_random(2000, 12);
     play_random(50, 200);

@@ -6,9 +6,11 @@
  *   answers A1 A2 ...                one for each event, up to the first refused one
  *   done N refusal R                 of a run over the whole list on a fresh chip, R 0 if none
  *   record W0 W1 ... W34             after that run
- *   cell COLUMN BANK BYTE EVENT      one for each written place, by bank, then column */
+ *   cell COLUMN BANK BYTE EVENT      one for each written place, by bank, then column
+ *   pulses ROW 5 P0 P1 P2 P3         one for each of the glass's rows 8 to 11 that is lit in column 5 */
 #include "example.h"
 #include "model.h"
+#include "pulses.h"
 
 #include <stdio.h>
 #include <stdlib.h>
@@ -60,6 +62,8 @@ static const struct worked cases[] = {
     { "unknown-commands", 0, "S 78 80 02 80 20 80 0D 80 51 80 0C 80 FF 80 01 P" },
     { "grey-levels", 0, "S 78 80 0B 80 41 80 94 80 43 80 BF P" },
     { "row-block-swapping", 0, "S 78 80 0C 80 58 80 00 80 01 P" },
+    { "pulses-17-30-63", 0,
+      "S 78 00 10 09 06 01 0C 04 01 0B 41 91 42 9E 43 BF 01 85 42 S 78 40 A7 P" },
 };
 
 static void append(struct list *list, unsigned long event)
@@ -147,6 +151,19 @@ static void print_cells(const struct chip *chip)
                    (unsigned long long)chip->writers[place]);
 }
 
+static void print_pulses(const struct chip *chip)
+{
+    for (uint64_t row = 8; row <= 11; row++) {
+        uint64_t word = model_pulses(chip->record, WORDS, chip->memory, PLACES, row, 5);
+        if (word >> 32 == 0)
+            continue;
+        printf("pulses %llu 5", (unsigned long long)row);
+        for (int frame = 0; frame < 4; frame++)
+            printf(" %llu", (unsigned long long)(word >> 8 * frame & 255));
+        printf("\n");
+    }
+}
+
 static void print_case(const char *name, uint64_t pins, const struct list *list)
 {
     struct chip chip;
@@ -161,6 +178,7 @@ static void print_case(const char *name, uint64_t pins, const struct list *list)
     printf("done %llu refusal %llu\n", (unsigned long long)done, (unsigned long long)refusal);
     print_record(&chip);
     print_cells(&chip);
+    print_pulses(&chip);
 }
 
 int main(void)

@@ -248,3 +248,32 @@ pub const ROW_BLOCK_SWAPPING: [u16; 11] = [
     0x01,
     STOP,
 ];
+
+// Display on, each value in its own register, 1, 2 and 3 at 17, 30 and 63; then A7h to column 5, bank 2, whose rows use registers 3, 1, 2, 2.
+pub const PULSES_17_30_63: [u16; 25] = [
+    START,
+    0x78,
+    0x00,
+    0x10,
+    0x09,
+    0x06,
+    0x01,
+    0x0c,
+    0x04,
+    0x01,
+    0x0b,
+    0x41,
+    0x91,
+    0x42,
+    0x9e,
+    0x43,
+    0xbf,
+    0x01,
+    0x85,
+    0x42,
+    START,
+    0x78,
+    0x40,
+    0xa7,
+    STOP,
+];

@@ -5,6 +5,7 @@
 //   done N refusal R                 of a run over all events on a fresh chip, R 0 if none
 //   record W0 W1 .. W34              after that run
 //   cell COLUMN BANK BYTE EVENT      for each written place, by bank, then column
+//   pulses ROW 5 P0 P1 P2 P3         for each of the glass's rows 8 to 11 that is lit in column 5
 mod cases;
 mod example;
 
@@ -59,6 +60,21 @@ fn cells(memory: &[u8; 1717], writers: &[u64; 1717]) {
     }
 }
 
+// In the four frames; a pixel that is not lit is left out.
+fn pulses(record: &[u64], memory: &[u8], row: u64) {
+    let word = host::pcf8820_pulses(record, memory, row, 5);
+    if 4294967296 <= word {
+        text(b"pulses");
+        number(row);
+        number(5);
+        number(word % 256);
+        number(word / 256 % 256);
+        number(word / 65536 % 256);
+        number(word / 16777216 % 256);
+        text(b"\n");
+    }
+}
+
 fn step_by_step(pins: u64, events: &[u16]) {
     let mut record = [0u64; 35];
     let mut memory = [0u8; 1717];
@@ -84,6 +100,10 @@ fn at_once(pins: u64, events: &[u16]) {
     words(&record);
     text(b"\n");
     cells(&memory, &writers);
+    pulses(&record, &memory, 8);
+    pulses(&record, &memory, 9);
+    pulses(&record, &memory, 10);
+    pulses(&record, &memory, 11);
 }
 
 fn play(name: &[u8], pins: u64, events: &[u16]) {
@@ -130,11 +150,12 @@ fn bus() {
     play(b"byte-while-reading", 0, &cases::BYTE_WHILE_READING);
 }
 
-// Bytes of no row, the grey registers, and rows that change nothing.
+// Bytes of no row, the grey registers, rows that change nothing, and greys on the glass.
 fn commands() {
     play(b"unknown-commands", 0, &cases::UNKNOWN_COMMANDS);
     play(b"grey-levels", 0, &cases::GREY_LEVELS);
     play(b"row-block-swapping", 0, &cases::ROW_BLOCK_SWAPPING);
+    play(b"pulses-17-30-63", 0, &cases::PULSES_17_30_63);
 }
 
 fn main() {

@@ -16,6 +16,10 @@ use Rattle.glass.specs.declared.answer.Shown.{Shown}
 use Rattle.glass.specs.declared.answer.Cell.{Cell}
 use Rattle.glass.specs.Answer.{shownNumber, cellNumber}
 use Rattle.glass.specs.Glass.{cellOf, glassOf}
+use Rattle.pulses.specs.declared.answer.Pulses.{Pulses}
+use Rattle.pulses.specs.Answer.{pulsesNumber}
+use Rattle.pulses.specs.Pulse.{pulsesOf}
+use Rattle.pulses.specs.Row.{pulseRow, rowOf}
 use Rattle.compiler.specs.declared.answer.Compiled.{Compiled}
 use Rattle.compiler.specs.declared.answer.Numbers.{Numbers}
 use Rattle.compiler.specs.Compile.{Result, result, compileOf, numbersOf}
@@ -26,6 +30,7 @@ use Rattle.record_words.proofs.Laws.{read-record-exactly, read-none-exactly, st
 use Rattle.host.specs.Calls.{noRecordFor, noRecord, reset, resetCall, stepped, stepCall, ran, runCall}
 use Rattle.host.specs.Compiling.{compiled, withNumbers, compileCall}
 use Rattle.host.specs.Views.{glassCall, placeCall}
+use Rattle.host.specs.Pulses.{pulsesCall, pulseRowCall}
 
 module _ (pins : ℕ) (ws : List ℕ) where
   pub reset-other-length : (length ws ≡ recordLength → ⊥) → reset 2 ws ≡ resetCall pins ws
@@ -61,6 +66,14 @@ module _ (ws : List ℕ) (x : Read) (ex : x ≡ readOf ws) (no : x ≡ NoRecord)
   unfolding glassCall
   glass-no-record row column m n en = rw none en
 
+  pub pulses-no-record : (row column : ℕ) (m : List ℕ) (n : ℕ) → n ≡ noRecordFor (length m) places → n ≡ pulsesCall row column ws m
+  unfolding pulsesCall
+  pulses-no-record row column m n en = rw none en
+
+  pub pulse-row-no-record : (row : ℕ) (m out : List ℕ) (n : ℕ) → n ≡ noRecordFor (length m) places → pulseRow n out ≡ pulseRowCall row ws m out
+  unfolding pulseRowCall
+  pulse-row-no-record row m out n en = rw (none, en)
+
   pub compile-no-record : (text out : List ℕ) → compiled 2 0 0 0 out ≡ compileCall ws text out
   unfolding compileCall
   compile-no-record text out = sym (rw none)
@@ -92,6 +105,16 @@ module _ (ws : List ℕ) (x : Read) (c : Chip) (ex : x ≡ readOf ws) (is : x �
   pub glass-done : (row column : ℕ) (m : List ℕ) (n : ℕ) (a : Shown) → a ≡ glassOf c m row column → n ≡ shownNumber a → n ≡ glassCall row column ws m
   unfolding glassCall
   glass-done row column m n a ea en = rw (stands, ← chip, ← ea) en
+
+  pub pulses-done :
+      (row column : ℕ) (m : List ℕ) (n : ℕ) (a : Pulses) → a ≡ pulsesOf c m row column → n ≡ pulsesNumber a → n ≡ pulsesCall row column ws m
+  unfolding pulsesCall
+  pulses-done row column m n a ea en = rw (stands, ← chip, ← ea) en
+
+  pub pulse-row-done :
+      (row : ℕ) (m out : List ℕ) (n : ℕ) (out′ : List ℕ) → pulseRow n out′ ≡ rowOf c m row out → pulseRow n out′ ≡ pulseRowCall row ws m out
+  unfolding pulseRowCall
+  pulse-row-done row m out n out′ er = rw (stands, ← chip) er
 
   pub compile-done :
       (text out : List ℕ) (a : Compiled) (t : Numbers) (out′ : List ℕ)

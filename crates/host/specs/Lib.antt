@@ -1,4 +1,5 @@
 pub mod Calls
 pub mod Compiling
 pub mod Views
+pub mod Pulses
 pub mod Playing

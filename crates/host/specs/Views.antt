@@ -1,4 +1,4 @@
--- The two calls of a C host that look and change nothing: what each gives back, for every input.
+-- The two calls of a C host that look at the glass: what each gives back, for every input.
 use mathlib.Core.Bool.{cond, not}
 use mathlib.Core.List.{List}
 use Prim.Native.Nat.{ℕ}

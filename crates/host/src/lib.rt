@@ -3,6 +3,8 @@ ghost use mathlib.Core.Path.{_≡_};
 ghost use Rattle.host.specs.Calls.{noRecordFor, reset, resetCall, stepped, stepCall, ran, runCall};
 ghost use Rattle.host.specs.Compiling.{compiled, compileCall};
 ghost use Rattle.host.specs.Views.{glassCall, placeCall};
+ghost use Rattle.host.specs.Pulses.{pulsesCall, pulseRowCall};
+ghost use Rattle.pulses.specs.Row.{pulseRow};
 use record_words::Read;
 use record_words::WORDS;
 use record_words::read_record;
@@ -103,6 +105,33 @@ pub extern "C" fn pcf8820_place(record: &[u64], row: u64, column: u64) -> u64
     };
     let place = glass::place(chip, row as usize, column as usize);
     place.number()
+}
+
+// The pulses of a pixel in the four frames.
+#[no_mangle]
+pub extern "C" fn pcf8820_pulses(record: &[u64], memory: &[u8], row: u64, column: u64) -> u64
+    ensures { λ r. ⌜ r ≡ pulsesCall row column (now («record» .entry)) (now (memory .entry)) ⌝ }
+{
+    let found = read_record(record);
+    let Read::Record(chip) = found else {
+        return no_record(memory.len(), 1717);
+    };
+    let pulses = pulses::of_pixel(chip, memory, row as usize, column as usize);
+    pulses.number()
+}
+
+// Those of a whole row of the glass.
+#[no_mangle]
+pub extern "C" fn pcf8820_pulse_row(record: &[u64], memory: &[u8], row: u64, out: &mut [u8]) -> u64
+    ensures { λ r. ⌜ pulseRow r (now (out .exit))
+        ≡ pulseRowCall row (now («record» .entry)) (now (memory .entry)) (now (out .entry)) ⌝ }
+{
+    let found = read_record(record);
+    let Read::Record(chip) = found else {
+        return no_record(memory.len(), 1717);
+    };
+    let refused = pulses::of_row(chip, memory, row as usize, out);
+    refused as u64
 }
 
 // A drawing list to bus events.

@@ -2,13 +2,14 @@
 
 #include "glass.h"
 #include "pcf8820.h"
+#include "pulses.h"
 #include "records.h"
 
 #include <stdio.h>
 #include <string.h>
 
 struct side {
-    struct lent record, memory;
+    struct lent record, memory, out;
 };
 
 static struct side model, library;
@@ -16,23 +17,37 @@ static struct side model, library;
 /* What is lent, and the present call. */
 static struct {
     uint64_t record[MOST_WORDS];
-    uint8_t memory[PLACES + 1];
-    size_t record_len, memory_len;
+    uint8_t memory[PLACES + 1], out[MOST_ROW_BYTES];
+    size_t record_len, memory_len, out_len;
+    enum where where;
     uint64_t row, column;
 } call;
 
-static void print_pixel(void)
+static void print_lent(void)
 {
     fprintf(stderr, "  record length %zu, memory length %zu\n", call.record_len, call.memory_len);
     print_record(call.record, call.record_len);
+}
+
+static void print_pixel(void)
+{
+    print_lent();
     fprintf(stderr, "  row: %llu, column: %llu\n", (unsigned long long)call.row,
             (unsigned long long)call.column);
+}
+
+static void print_row(void)
+{
+    print_lent();
+    fprintf(stderr, "  row: %llu, row buffer length %zu\n", (unsigned long long)call.row,
+            call.out_len);
 }
 
 static void map_side(struct side *side)
 {
     map_lent(&side->record, sizeof call.record);
     map_lent(&side->memory, sizeof call.memory);
+    map_lent(&side->out, sizeof call.out);
 }
 
 void glass_start(void)
@@ -42,10 +57,10 @@ void glass_start(void)
     map_side(&library);
 }
 
-static void lend_side(struct side *side, enum where where)
+static void lend_side(struct side *side)
 {
-    put_lent(&side->record, call.record_len * sizeof call.record[0], where);
-    put_lent(&side->memory, call.memory_len, where);
+    put_lent(&side->record, call.record_len * sizeof call.record[0], call.where);
+    put_lent(&side->memory, call.memory_len, call.where);
     fill_lent(&side->memory, call.memory, call.memory_len);
 }
 
@@ -53,10 +68,11 @@ void glass_lend(size_t record_len, size_t memory_len, enum where where)
 {
     call.record_len = record_len;
     call.memory_len = memory_len;
+    call.where = where;
     for (size_t i = 0; i < sizeof call.memory; i++)
         call.memory[i] = (uint8_t)random64();
-    lend_side(&model, where);
-    lend_side(&library, where);
+    lend_side(&model);
+    lend_side(&library);
     reset_record(call.record, 0);
     glass_record(call.record);
 }
@@ -94,7 +110,7 @@ static uint64_t compare_call(uint64_t ours, uint64_t theirs)
     return theirs;
 }
 
-static void note_call(const char *name, uint64_t row, uint64_t column)
+static void note_pixel(const char *name, uint64_t row, uint64_t column)
 {
     next_call(name, print_pixel);
     call.row = row;
@@ -103,7 +119,7 @@ static void note_call(const char *name, uint64_t row, uint64_t column)
 
 uint64_t compare_glass(uint64_t row, uint64_t column)
 {
-    note_call("glass", row, column);
+    note_pixel("glass", row, column);
     uint64_t theirs = pcf8820_glass(words_of(&library.record), call.record_len,
                                     library.memory.at, call.memory_len, row, column);
     uint64_t ours = model_glass(words_of(&model.record), call.record_len,
@@ -113,9 +129,19 @@ uint64_t compare_glass(uint64_t row, uint64_t column)
 
 uint64_t compare_place(uint64_t row, uint64_t column)
 {
-    note_call("place", row, column);
+    note_pixel("place", row, column);
     uint64_t theirs = pcf8820_place(words_of(&library.record), call.record_len, row, column);
     uint64_t ours = model_place(words_of(&model.record), call.record_len, row, column);
+    return compare_call(ours, theirs);
+}
+
+uint64_t compare_pulses(uint64_t row, uint64_t column)
+{
+    note_pixel("pulses", row, column);
+    uint64_t theirs = pcf8820_pulses(words_of(&library.record), call.record_len,
+                                     library.memory.at, call.memory_len, row, column);
+    uint64_t ours = model_pulses(words_of(&model.record), call.record_len,
+                                 model.memory.at, call.memory_len, row, column);
     return compare_call(ours, theirs);
 }
 
@@ -123,4 +149,35 @@ void compare_pixel(uint64_t row, uint64_t column)
 {
     compare_glass(row, column);
     compare_place(row, column);
+    compare_pulses(row, column);
+}
+
+static void lend_row(struct side *side)
+{
+    put_lent(&side->out, call.out_len, call.where);
+    fill_lent(&side->out, call.out, call.out_len);
+}
+
+uint64_t compare_pulse_row(uint64_t row, size_t out_len)
+{
+    next_call("pulse_row", print_row);
+    call.row = row;
+    call.out_len = out_len;
+    for (size_t i = 0; i < out_len; i++)
+        call.out[i] = (uint8_t)random64();
+    lend_row(&model);
+    lend_row(&library);
+    uint64_t theirs = pcf8820_pulse_row(words_of(&library.record), call.record_len, library.memory.at,
+                                        call.memory_len, row, library.out.at, out_len);
+    uint64_t ours = model_pulse_row(words_of(&model.record), call.record_len, model.memory.at,
+                                    call.memory_len, row, model.out.at, out_len);
+    compare_lent("row buffer", sizeof(uint8_t), &model.out, &library.out);
+    if (theirs != 0 && memcmp(call.out, library.out.at, out_len) != 0)
+        fail("a refused call changed the row buffer");
+    return compare_call(ours, theirs);
+}
+
+const uint8_t *row_buffer(void)
+{
+    return library.out.at;
 }

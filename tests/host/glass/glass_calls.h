@@ -1,5 +1,6 @@
-/* The calls of the glass, made on the library and on the model, and the comparison of what they give.
- * Neither may change what it is lent. */
+/* The calls of the glass and of its pulses, made on the library and on the model, and the comparison
+ * of what they give. Neither may change what it is lent but the row buffer, and that only if the call
+ * is not refused. */
 #ifndef GLASS_CALLS_H
 #define GLASS_CALLS_H
 
@@ -10,6 +11,8 @@
 #include <stdint.h>
 
 enum { ROWS = 67, COLUMNS = 101, PLACES = 1717, RECORD_LEN = 35, MOST_WORDS = RECORD_LEN + 1 };
+
+enum { FRAMES = 4, ROW_BYTES = COLUMNS * FRAMES, MOST_ROW_BYTES = 2 * ROW_BYTES };
 
 /* What the glass gives for a pixel that has no level. */
 enum { DARK = 256, UNDRIVEN = 257, LEVEL = 512 };
@@ -31,8 +34,16 @@ void glass_byte(size_t place, uint8_t byte);
 /* Make the call on both sides and compare. They give the common result. */
 uint64_t compare_glass(uint64_t row, uint64_t column);
 uint64_t compare_place(uint64_t row, uint64_t column);
+uint64_t compare_pulses(uint64_t row, uint64_t column);
 
-/* Both calls. */
+/* All three calls. */
 void compare_pixel(uint64_t row, uint64_t column);
+
+/* The same for the pulses of a row, into a buffer of this length, at most MOST_ROW_BYTES, with random
+ * contents. */
+uint64_t compare_pulse_row(uint64_t row, size_t out_len);
+
+/* What the library left in the row buffer. */
+const uint8_t *row_buffer(void);
 
 #endif

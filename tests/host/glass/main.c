@@ -1,4 +1,5 @@
-/* Holds the library's glass against the model's. `quick` as the argument makes a sample only. */
+/* Holds the library's glass and its pulses against the model's. `quick` as the argument makes a
+ * sample only. */
 #include "glass_calls.h"
 #include "themes.h"
 
@@ -12,6 +13,8 @@ int main(int argc, char **argv)
     test_levels();
     test_whole_glass();
     test_edges();
+    test_pulses();
+    test_row_buffers();
     report_calls("glass tests");
     return 0;
 }

@@ -69,4 +69,46 @@ mutant 'record changed' 's/^    return PLACE +/    ((uint64_t *)record)[X] ^= 1;
 mutant 'read past the memory' \
     's/^    unsigned value = /    (void)*(volatile const uint8_t *)(memory + PLACES); &/'
 
+# Pulses of a pixel, and of a row.
+model=pulses
+mutant 'all pulses a quarter of the level' 's/owed %= FRAMES/owed = 0/'
+mutant 'the remainder in the first frame' 's/owed += level/owed = level + (frame == 0) * 3 * (level % 4)/'
+mutant 'the remainder in the last frame' 's/owed += level/owed = level + (frame == 3) * 3 * (level % 4)/'
+mutant 'rounded to the nearest' 's/unsigned owed = 0/unsigned owed = FRAMES \/ 2/'
+mutant 'frames from the last one on' 's/pulses\[frame\] = /pulses[FRAMES - 1 - frame] = /'
+mutant 'pulses of 63 and not of 64' 's/owed += level;/owed += level == 64 ? 63 : level;/'
+mutant 'pulses of 16 cut to four bits' 's/(uint8_t)(owed \/ FRAMES)/(owed \/ FRAMES) \& 15/'
+mutant 'dark told as four zeros' 's/^    if (pixel < LEVEL)/    if (pixel == DARK) return (uint64_t)1 << 32; &/'
+mutant 'undriven told as four zeros' \
+    's/^    if (pixel < LEVEL)/    if (pixel == UNDRIVEN) return (uint64_t)1 << 32; &/'
+mutant 'undriven told as dark' 's/^    if (pixel < LEVEL)/    if (pixel == UNDRIVEN) return DARK; &/'
+mutant 'pulses without the 1 above them' 's/uint64_t word = 1/uint64_t word = 0/'
+mutant 'frame 0 the highest byte' 's/frame = FRAMES - 1; frame >= 0; frame--/frame = 0; frame < FRAMES; frame++/'
+mutant 'pulses of the column as row' '/^    uint64_t pixel/s/row, column/column, row/'
+mutant 'dark bytes 0' 's/memset(bytes, DARK_BYTE/memset(bytes, 0/'
+mutant 'undriven bytes 254' 's/memset(bytes, UNDRIVEN_BYTE/memset(bytes, DARK_BYTE/'
+mutant 'one byte of four dark' 's/(bytes, DARK_BYTE, FRAMES/(bytes, DARK_BYTE, 1/'
+mutant 'one byte of four undriven' 's/UNDRIVEN_BYTE, FRAMES/UNDRIVEN_BYTE, 1/'
+mutant 'frames one after the other, each of 101 bytes' \
+    's/^        put_pixel(.*/        uint8_t p[FRAMES]; put_pixel(pixel, p); for (int f = 0; f < FRAMES; f++) out[COLUMNS * f + column] = p[f];/'
+mutant 'columns from right to left in a row' 's/out + FRAMES \* column/out + FRAMES * (100 - column)/'
+mutant 'the last column left out' 's/column < COLUMNS; column++/column < COLUMNS - 1; column++/'
+mutant 'column 0 in the whole row' 's/put_pixel(pixel,/put_pixel(first,/'
+mutant 'the next row' '/^        uint64_t pixel/s/row, column/row < 66 ? row + 1 : 0, column/'
+mutant 'row of a row cut to 32 bits' 's/memory_len, row, 0);/memory_len, (uint32_t)row, 0);/'
+mutant '11 before 5' 's/^    if (first < DARK)/    if (first == 5 \&\& out_len != ROW_BYTES) return BAD_ROW_BUFFER; &/'
+mutant '11 before 2' 's/^    if (first < DARK)/    if (first == 2 \&\& out_len != ROW_BYTES) return BAD_ROW_BUFFER; &/'
+mutant '11 before 1' 's/^    if (first < DARK)/    if (first == 1 \&\& out_len != ROW_BYTES) return BAD_ROW_BUFFER; &/'
+mutant 'a longer row buffer taken' 's/out_len != ROW_BYTES/out_len < ROW_BYTES/'
+mutant 'a row buffer of 400 taken' 's/out_len != ROW_BYTES/out_len < 400/'
+mutant 'row buffer not looked at' 's/if (out_len != ROW_BYTES)/if (0)/'
+mutant 'the row written before 11 is known' \
+    's/^    if (out_len != ROW_BYTES)/    if (out_len > 0) out[0] = 0; &/'
+mutant 'the row written before 5 is known' \
+    's/^    if (first < DARK)/    if (first == 5 \&\& out_len == ROW_BYTES) out[403] ^= 1; &/'
+mutant 'a byte past the row' 's/^    return 0;/    out[ROW_BYTES] = 0; &/'
+mutant 'memory changed for a row' 's/^    return 0;/    ((uint8_t *)memory)[7] ^= 1; &/'
+mutant 'record changed for a row' 's/^    return 0;/    ((uint64_t *)record)[X] ^= 1; &/'
+mutant 'memory changed for pulses' 's/^    uint8_t pulses\[FRAMES\]/    if (memory_len == 1717) ((uint8_t *)memory)[7] ^= 1; &/'
+
 all_found

@@ -6,5 +6,7 @@ void test_modes(void);
 void test_levels(void);
 void test_whole_glass(void);
 void test_edges(void);
+void test_pulses(void);
+void test_row_buffers(void);
 
 #endif
