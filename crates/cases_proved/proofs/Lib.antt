@@ -6,5 +6,6 @@ pub mod Observed
 pub mod Chips
 pub mod Glasses
 pub mod Pulses
+pub mod Calls
 pub mod Answers
 pub mod Captures

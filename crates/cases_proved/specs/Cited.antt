@@ -31,6 +31,9 @@ pub use Rattle.pulses.specs.declared.answer.Pulses.{Pulses}
 pub use Rattle.pulses.specs.Answer.{pulsesNumber}
 pub use Rattle.pulses.specs.Pulse.{pulsesOf}
 pub use Rattle.pulses.specs.Row.{PulseRow}
+pub use Rattle.record_words.specs.Words.{PINS, COUNT}
+pub use Rattle.host.specs.Calls.{Reset, Stepped, Ran}
+pub use Rattle.host.specs.Compiling.{Compiled}
 -- these are opened where a case is computed
 unfoldable pub use Rattle.registers.specs.Record.{allowed}
 unfoldable pub use Rattle.registers.specs.Table.{rowAt}
@@ -50,5 +53,10 @@ unfoldable pub use Rattle.drawing.specs.Stream.{lineEvents, stream}
 unfoldable pub use Rattle.compiler.specs.Compile.{compileOf}
 unfoldable pub use Rattle.glass.specs.Glass.{placeRefusal, glassRefusal, cellOf, glassOf}
 unfoldable pub use Rattle.pulses.specs.Row.{rowBytes, rowRefusal, rowOf}
+unfoldable pub use Rattle.record_words.specs.Words.{standsFor, chipOf, wordsOf}
+unfoldable pub use Rattle.host.specs.Calls.{resetCall, stepCall, runCall}
+unfoldable pub use Rattle.host.specs.Views.{glassCall, placeCall}
+unfoldable pub use Rattle.host.specs.Pulses.{pulsesCall, pulseRowCall}
+unfoldable pub use Rattle.host.specs.Compiling.{compileCall}
 unfoldable pub use Rattle.capture_lines.specs.Line.{pinsOf}
 unfoldable pub use Rattle.capture.specs.Replay.{replayOf}

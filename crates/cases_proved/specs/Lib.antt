@@ -8,5 +8,6 @@ pub mod Behaviour
 pub mod Chips
 pub mod Glasses
 pub mod Pulses
+pub mod Calls
 pub mod Answers
 pub mod Captures

@@ -1,0 +1,175 @@
+-- Wrong calls: what the calls of a host in C give for chosen words and buffers, and what a wrong one would give.
+use mathlib.Core.List.{List, [], _∷_}
+use Prim.Native.Nat.{ℕ, _+_, _^_}
+use Prim.Native.String.{String}
+use Rattle.cases_proved.specs.Cited.{PD, X, PINS, COUNT, replicate, getD, bytes, wordsOf, Reset, resetCall, Stepped, stepCall, Ran, runCall}
+use Rattle.cases_proved.specs.Cited.{glassCall, placeCall, PulseRow, pulsesCall, pulseRowCall, Compiled, compileCall}
+use Rattle.cases_proved.specs.Behaviour.{START, nothing, acknowledged}
+use Rattle.cases_proved.specs.Observed.{Observation, _gives_not_}
+use Rattle.cases_proved.specs.Start.{Setting, _is_, zeros, oneCell, viewed}
+use Rattle.cases_proved.specs.Glasses.{mode10, level, at}
+use Rattle.cases_proved.specs.Pulses.{told}
+
+-- ---- the calls, and what can be seen of them
+
+-- words, display memory and writers come in this order, and the buffer that is written last
+pub record Calls : Type 0 where
+  pub reset : ℕ → List ℕ → Reset
+  pub step : ℕ → List ℕ → List ℕ → List ℕ → Stepped
+  pub run : List ℕ → List ℕ → List ℕ → List ℕ → Ran
+  pub glass : ℕ → ℕ → List ℕ → List ℕ → ℕ
+  pub place : ℕ → ℕ → List ℕ → ℕ
+  pub pulses : ℕ → ℕ → List ℕ → List ℕ → ℕ
+  pub pulseRow : ℕ → List ℕ → List ℕ → List ℕ → PulseRow
+  pub compile : List ℕ → List ℕ → List ℕ → Compiled
+
+unfoldable pub calls : Calls
+calls =
+    record {
+      reset = resetCall;
+      step = stepCall;
+      run = runCall;
+      glass = glassCall;
+      place = placeCall;
+      pulses = pulsesCall;
+      pulseRow = pulseRowCall;
+      compile = compileCall;
+    }
+
+-- the words of a chip after reset with these registers set, its grey registers 40 to 43; and too few words for a record, all 0
+abbrev pub words : List Setting → List ℕ
+words before = wordsOf (viewed before)
+
+abbrev pub noWords : List ℕ
+noWords = replicate 34 0
+
+-- a memory, or writers, one short
+abbrev pub short : List ℕ
+short = replicate 1716 0
+
+-- a reset of so many words, all 77: the number given back, and word k
+abbrev pub resetNumber : ℕ → ℕ → Calls → ℕ
+resetNumber pins n c = c .reset pins (replicate n 77) .number
+
+abbrev pub resetWord : ℕ → ℕ → ℕ → Calls → ℕ
+resetWord pins n k c = getD (c .reset pins (replicate n 77) .words) k 0
+
+abbrev pub stepNumber : ℕ → List ℕ → List ℕ → List ℕ → Calls → ℕ
+stepNumber e ws m w c = c .step e ws m w .number
+
+abbrev pub stepWord : ℕ → List ℕ → ℕ → Calls → ℕ
+stepWord e ws k c = getD (c .step e ws zeros zeros .words) k 0
+
+abbrev pub runNumber : List ℕ → List ℕ → List ℕ → List ℕ → Calls → ℕ
+runNumber es ws m w c = c .run es ws m w .number
+
+abbrev pub runDone : List ℕ → List ℕ → Calls → ℕ
+runDone es ws c = c .run es ws zeros zeros .done
+
+abbrev pub glass : ℕ → ℕ → List ℕ → List ℕ → Calls → ℕ
+glass row column ws m c = c .glass row column ws m
+
+abbrev pub place : ℕ → ℕ → List ℕ → Calls → ℕ
+place row column ws c = c .place row column ws
+
+abbrev pub pulses : ℕ → ℕ → List ℕ → List ℕ → Calls → ℕ
+pulses row column ws m c = c .pulses row column ws m
+
+-- a row into a buffer of so many bytes, all 99: the number given back, and byte k
+abbrev pub rowNumber : ℕ → List ℕ → List ℕ → ℕ → Calls → ℕ
+rowNumber r ws m n c = c .pulseRow r ws m (replicate n 99) .number
+
+abbrev pub rowByte : ℕ → List ℕ → List ℕ → ℕ → ℕ → Calls → ℕ
+rowByte r ws m n k c = getD (c .pulseRow r ws m (replicate n 99) .out) k 0
+
+-- a list compiled into an output of so many words, all 999
+abbrev pub compiled : List ℕ → String → ℕ → Calls → Compiled
+compiled ws text n c = c .compile ws (bytes text) (replicate n 999)
+
+-- ---- the table
+
+-- the first marked list: 11 events, 81 clocks
+abbrev pub aPut : String
+aPut = "put\t5\t2\t167\n"
+
+unfoldable pub callRows : List (Observation Calls)
+callRows =
+    -- pins above 3, and a buffer of another length, let pass; pins 3 refused
+    resetNumber 4 35 gives 2 not 0
+    ∷ resetNumber 0 34 gives 2 not 0
+    ∷ resetNumber 0 36 gives 2 not 0
+    ∷ resetNumber 3 35 gives 0 not 2
+    -- nothing written, and written by a refused call; other pins
+    ∷ resetWord 3 35 PD gives 1 not 77
+    ∷ resetWord 4 35 PD gives 77 not 1
+    ∷ resetWord 3 35 PINS gives 3 not 0
+    -- ---- the answer as another number; the record not written back
+    ∷ stepNumber START (words []) zeros zeros gives nothing not 0
+    ∷ stepWord START (words []) COUNT gives 1 not 0
+    -- words that stand for no record let pass; 2 before 1, for either memory; 3 before 2
+    ∷ stepNumber START noWords zeros zeros gives 2 not nothing
+    ∷ stepNumber START (words (X is 101 ∷ [])) zeros zeros gives 2 not nothing
+    ∷ stepNumber START noWords short zeros gives 1 not 2
+    ∷ stepNumber START noWords zeros short gives 1 not 2
+    ∷ stepNumber 261 noWords zeros zeros gives 2 not 3
+    -- ---- how many events were done: the first alone, one more at a refused event, one at a refused entry
+    ∷ runDone (START ∷ 0x78 ∷ []) (words []) gives 2 not 1
+    ∷ runDone (START ∷ 261 ∷ []) (words []) gives 1 not 2
+    ∷ runDone (START ∷ []) noWords gives 0 not 1
+    -- the last answer for the refusal; a refusal at entry with no events let pass; 2 before 1, for either memory
+    ∷ runNumber (START ∷ 0x78 ∷ []) (words []) zeros zeros gives 0 not acknowledged
+    ∷ runNumber [] noWords zeros zeros gives 2 not 0
+    ∷ runNumber [] noWords short zeros gives 1 not 2
+    ∷ runNumber [] noWords zeros short gives 1 not 2
+    -- ---- row and column exchanged, and either of them cut to 32 bits
+    ∷ glass 8 5 (words mode10) oneCell gives level 43 not level 40
+    ∷ glass (2 ^ 32 + 8) 5 (words mode10) oneCell gives 5 not level 43
+    ∷ glass 8 (2 ^ 32 + 5) (words mode10) oneCell gives 5 not level 43
+    ∷ place 8 5 (words mode10) gives at 207 not at 109
+    ∷ place (2 ^ 32 + 8) 5 (words mode10) gives 5 not at 207
+    ∷ place 8 (2 ^ 32 + 5) (words mode10) gives 5 not at 207
+    ∷ pulses 8 5 (words mode10) oneCell gives told 10 11 11 11 not told 10 10 10 10
+    ∷ pulses (2 ^ 32 + 8) 5 (words mode10) oneCell gives 5 not told 10 11 11 11
+    ∷ pulses 8 (2 ^ 32 + 5) (words mode10) oneCell gives 5 not told 10 11 11 11
+    -- the glass's number for that of the pulses, and the other way round
+    ∷ pulses 8 5 (words mode10) oneCell gives told 10 11 11 11 not level 43
+    ∷ glass 8 5 (words mode10) oneCell gives level 43 not told 10 11 11 11
+    -- words that stand for no record let pass
+    ∷ glass 8 5 noWords oneCell gives 2 not level 0
+    ∷ glass 8 5 (words (X is 101 ∷ mode10)) oneCell gives 2 not level 43
+    ∷ place 8 5 noWords gives 2 not at 207
+    ∷ pulses 8 5 noWords oneCell gives 2 not told 0 0 0 0
+    ∷ pulses 8 5 (words (X is 101 ∷ mode10)) oneCell gives 2 not told 10 11 11 11
+    -- 2 before 1, and 5 before 2
+    ∷ glass 8 5 noWords short gives 1 not 2
+    ∷ glass 67 5 noWords oneCell gives 2 not 5
+    ∷ place 67 5 noWords gives 2 not 5
+    ∷ pulses 8 5 noWords short gives 1 not 2
+    ∷ pulses 67 5 noWords oneCell gives 2 not 5
+    -- ---- a row of pulses: the row cut to 32 bits, the bytes written for the number
+    ∷ rowNumber (2 ^ 32 + 8) (words mode10) oneCell 404 gives 5 not 0
+    ∷ rowNumber 8 (words mode10) oneCell 404 gives 0 not 404
+    -- where the words stand for no record: 11 before 2, and before 1; 2 before 1
+    ∷ rowNumber 8 noWords oneCell 403 gives 2 not 11
+    ∷ rowNumber 8 noWords short 403 gives 1 not 11
+    ∷ rowNumber 8 noWords short 404 gives 1 not 2
+    -- 11 let pass
+    ∷ rowNumber 8 (words mode10) oneCell 405 gives 11 not 0
+    -- the row buffer not written, and written by a refused call
+    ∷ rowByte 8 (words mode10) oneCell 404 21 gives 11 not 99
+    ∷ rowByte 8 (words mode10) oneCell 403 21 gives 99 not 11
+    ∷ rowByte 8 (words (X is 101 ∷ mode10)) oneCell 404 21 gives 99 not 11
+    ∷ rowByte 8 noWords oneCell 404 21 gives 99 not 0
+    -- ---- compiling: the three out-numbers, each given for another
+    ∷ (λ c. compiled (words []) aPut 20 c .length) gives 11 not 81
+    ∷ (λ c. compiled (words []) aPut 20 c .clocks) gives 81 not 11
+    ∷ (λ c. compiled (words []) aPut 20 c .line) gives 0 not 11
+    -- no line told of a bad list
+    ∷ (λ c. compiled (words []) "set\tz\t1\n" 20 c .line) gives 1 not 0
+    -- words that stand for no record let pass: the number, and the length
+    ∷ (λ c. compiled noWords aPut 20 c .number) gives 2 not 0
+    ∷ (λ c. compiled noWords aPut 20 c .length) gives 0 not 11
+    -- the output not written, and written by a refused call
+    ∷ (λ c. getD (compiled (words []) aPut 20 c .out) 0 0) gives START not 999
+    ∷ (λ c. getD (compiled (words []) aPut 10 c .out) 0 0) gives 999 not START
+    ∷ []
