@@ -62,6 +62,16 @@ static uint64_t look_at_all(struct side *side)
     return ROWS * COLUMNS;
 }
 
+static uint64_t pulse_rows(struct side *side)
+{
+    for (uint64_t row = 0; row < ROWS; row++) {
+        side->sum += side->calls->pulse_row(side->record, WORDS, side->memory, PLACES, row,
+                                            side->row, ROW_BYTES);
+        side->sum += side->row[4 * row + 3];
+    }
+    return ROWS * COLUMNS;
+}
+
 static uint64_t compile_all(struct side *side)
 {
     uint64_t length, clocks, line;
@@ -199,6 +209,7 @@ int main(void)
     printf("%-26s %6s %6s %6s   %7s %7s\n", "", "least", "median", "most", "library", "model");
     compare_chip();
     compare("glass, every pixel", "pixels", look_at_all, 40, light_up);
+    compare("pulses, every row", "pixels", pulse_rows, 40, light_up);
     compare_compilers();
     return 0;
 }

@@ -4,6 +4,7 @@
 #include "glass.h"
 #include "model.h"
 #include "pcf8820.h"
+#include "pulses.h"
 #include "records.h"
 
 #include <stdio.h>
@@ -14,6 +15,7 @@ static const struct calls library_calls = {
     .step = pcf8820_step,
     .run = pcf8820_run,
     .glass = pcf8820_glass,
+    .pulse_row = pcf8820_pulse_row,
     .compile = pcf8820_compile,
 };
 
@@ -21,6 +23,7 @@ static const struct calls model_calls = {
     .step = model_step,
     .run = model_run,
     .glass = model_glass,
+    .pulse_row = model_pulse_row,
     .compile = model_compile,
 };
 
@@ -32,6 +35,7 @@ void clear(struct side *side)
     model_reset(side->record, WORDS, 0);
     memset(side->memory, 0, sizeof side->memory);
     memset(side->writers, 0, sizeof side->writers);
+    memset(side->row, 0, sizeof side->row);
     memset(side->out, 0, sizeof side->out);
     side->sum = 0;
 }
@@ -51,6 +55,7 @@ void light_up(void)
     memcpy(model.record, library.record, sizeof model.record);
     memcpy(model.memory, library.memory, sizeof model.memory);
     memset(model.writers, 0, sizeof model.writers);
+    memset(model.row, 0, sizeof model.row);
     model.sum = 0;
 }
 
@@ -60,6 +65,7 @@ void must_agree(const char *name)
         && memcmp(library.record, model.record, sizeof model.record) == 0
         && memcmp(library.memory, model.memory, sizeof model.memory) == 0
         && memcmp(library.writers, model.writers, sizeof model.writers) == 0
+        && memcmp(library.row, model.row, sizeof model.row) == 0
         && memcmp(library.out, model.out, sizeof model.out) == 0)
         return;
     fprintf(stderr, "bench: %s: the library and the model do not give the same\n", name);

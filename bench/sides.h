@@ -5,13 +5,15 @@
 #include <stddef.h>
 #include <stdint.h>
 
-enum { WORDS = 35, PLACES = 1717, MOST_OUT = 1 << 18 };
+enum { WORDS = 35, PLACES = 1717, ROW_BYTES = 404, MOST_OUT = 1 << 18 };
 
 struct calls {
     uint64_t (*step)(uint64_t *, size_t, uint8_t *, size_t, uint64_t *, size_t, uint16_t);
     uint64_t (*run)(uint64_t *, size_t, uint8_t *, size_t, uint64_t *, size_t,
                     const uint16_t *, size_t, uint64_t *);
     uint64_t (*glass)(const uint64_t *, size_t, const uint8_t *, size_t, uint64_t, uint64_t);
+    uint64_t (*pulse_row)(const uint64_t *, size_t, const uint8_t *, size_t, uint64_t,
+                          uint8_t *, size_t);
     uint64_t (*compile)(const uint64_t *, size_t, const uint8_t *, size_t, uint16_t *, size_t,
                         uint64_t *, uint64_t *, uint64_t *);
 };
@@ -22,13 +24,14 @@ struct side {
     uint64_t record[WORDS];
     uint8_t memory[PLACES];
     uint64_t writers[PLACES];
+    uint8_t row[ROW_BYTES];
     uint16_t out[MOST_OUT];
     uint64_t sum;
 };
 
 extern struct side library, model;
 
-/* The reset record, both memories and the output 0. */
+/* The reset record, both memories and the outputs 0. */
 void clear(struct side *side);
 
 /* A record that shows levels, and a random memory, the same on both sides. */
