@@ -14,6 +14,7 @@ use Rattle.registers.specs.declared.Chip.{Chip}
 use Rattle.registers.specs.declared.Registers.{Registers}
 use Rattle.registers.specs.declared.Phase.{Phase}
 use Rattle.registers.specs.Record.{phaseRs, limits, within, values, ofValues}
+use Rattle.registers.proofs.Below.{and-true}
 use Rattle.record_words.specs.declared.Read.the-variants.{Record, NoRecord}
 use Rattle.record_words.specs.Words.{wordLimits, restLimits, recordLength, standsFor, chipOf, wordsOf, phaseOf, phaseNumber, bit, isSet, readOf, stored}
 use Rattle.record_words.proofs.Stands.{in-words, spelled}
@@ -41,10 +42,6 @@ pub at-rest :
 at-rest t ws i e h = rw e at h
 
 -- the words behind the registers; every count passes
-and-true : (t : Bool) → t && true ≡ t
-and-true true = refl
-and-true false = refl
-
 pub rest-within :
     (t : Bool) (ws : List ℕ) → length ws ≡ recordLength → getD ws 34 0 ≤ 2 ^ 64 - 1
     → within t (drop 29 ws) restLimits

@@ -32,6 +32,14 @@ true-false e = subst (λ (b : Bool). T b) e tt
 pub false-true : false ≡ true → ⊥
 false-true e = true-false (sym e)
 
+pub and-true : (a : Bool) → a && true ≡ a
+and-true true = refl
+and-true false = refl
+
+pub or-false : (a : Bool) → a || false ≡ a
+or-false true = refl
+or-false false = refl
+
 pub or-true : (a : Bool) → a || true ≡ true
 or-true true = refl
 or-true false = refl

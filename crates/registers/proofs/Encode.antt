@@ -12,8 +12,8 @@ use lib.Dec.{T, leb, eqb, leb→le, eqb→eq}
 use lib.ListN.{getD, length}
 use lib.Pow.{pow-pos, pow-mono, pow-add}
 use Rattle.registers.specs.declared.Registers.{Registers}
-use Rattle.registers.specs.Encode.{held, encoded, rowByte, withParts}
-use Rattle.registers.specs.Table.{Part, Row, rows, noRow, above, value, opened, isOf, taken, putTo, matches, matchesAt, rowAmong, rowAt}
+use Rattle.registers.specs.Encode.{held, encoded, rowByte, holdsInRange, withParts}
+use Rattle.registers.specs.Table.{Part, Row, rows, noRow, above, value, opened, isOf, taken, inRangeOf, inRange, putTo, matches, matchesAt, rowAmong, rowAt}
 use Rattle.registers.proofs.Below.{allBelow, below-at, and-left, and-right}
 use Rattle.registers.proofs.TableTest.{rowNo, rows-apart}
 
@@ -82,6 +82,10 @@ pub encodes-taken : (ps : List Part) (b : ℕ) (t r : Registers) → Encodes ps 
 encodes-taken [] b t r h = refl
 encodes-taken (p ∷ ps) b t r h =
     ap (λ (x : ℕ). taken ps b (putTo (p .target) x r)) (h .0) ∙ encodes-taken ps b t (putTo (p .target) (held (p .target) t) r) (h .1)
+
+pub encodes-in-range : (ps : List Part) (b : ℕ) (t : Registers) → Encodes ps b t → inRange ps b ≡ holdsInRange ps t
+encodes-in-range [] b t h = refl
+encodes-in-range (p ∷ ps) b t h = ap₂ (λ (n : ℕ) (rest : Bool). inRangeOf (p .target) n && rest) (h .0) (encodes-in-range ps b t (h .1))
 
 -- ---- the rows of the table
 

@@ -5,4 +5,5 @@ pub mod Within
 pub mod Parts
 pub mod Put
 pub mod Encode
+pub mod Held
 pub mod Refusals

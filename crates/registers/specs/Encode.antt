@@ -1,13 +1,13 @@
 -- A row's byte from the registers that it is to set: the other way round of `taken`.
 use mathlib.Core.List.{List, [], _∷_}
-use mathlib.Core.Bool.{Bool, false, _&&_, _||_}
+use mathlib.Core.Bool.{Bool, true, false, _&&_, _||_}
 use Prim.Native.Nat.{ℕ, _+_, _*_, _%_, _^_}
 use lib.Dec.{eqb, leb}
 use lib.ListN.{getD}
 use Rattle.registers.specs.declared.Registers.{Registers}
 use Rattle.registers.specs.Places.{GS0, GS3}
 use Rattle.registers.specs.Record.{values}
-use Rattle.registers.specs.Table.{Target, Part, Row, rows, putTo, orNext}
+use Rattle.registers.specs.Table.{Target, Part, Row, rows, inRangeOf, putTo, orNext}
 use Rattle.registers.specs.Table.Target.{register, bounded, selected, unheld}
 
 -- what a target holds; bits that the record does not hold go out as 0
@@ -25,6 +25,11 @@ encoded (p ∷ ps) t = held (p .target) t * 2 ^ (p .low) + encoded ps t
 -- the byte by which the row says what t holds
 abbrev pub rowByte : Row → Registers → ℕ
 rowByte w t = w .code + encoded (w .parts) t
+
+-- what t holds of the parts is what their targets take
+abbrev pub holdsInRange : List Part → Registers → Bool
+holdsInRange [] t = true
+holdsInRange (p ∷ ps) t = inRangeOf (p .target) (held (p .target) t) && holdsInRange ps t
 
 -- registers r with the parts' fields as t has them
 abbrev pub withParts : List Part → Registers → Registers → Registers

@@ -149,10 +149,17 @@ abbrev pub keep : Bool → Registers → Registers → Registers
 keep true r old = r
 keep false r old = old
 
+-- a number that the target takes: any, but for a bounded register, which has a limit below what its bits say
+abbrev pub inRangeOf : Target → ℕ → Bool
+inRangeOf (register f) n = true
+inRangeOf (bounded f) n = leb n (getD limits f 0)
+inRangeOf selected n = true
+inRangeOf unheld n = true
+
 -- a part's number goes to its target
 abbrev pub putTo : Target → ℕ → Registers → Registers
 putTo (register f) n r = put f n r
-putTo (bounded f) n r = keep (leb n (getD limits f 0)) (put f n r) r
+putTo (bounded f) n r = keep (inRangeOf (bounded f) n) (put f n r) r
 putTo selected n r = put (GS0 + r .gr % 4) n r
 putTo unheld n r = r
 
@@ -160,6 +167,11 @@ putTo unheld n r = r
 abbrev pub taken : List Part → ℕ → Registers → Registers
 taken [] b r = r
 taken (p ∷ ps) b r = taken ps b (putTo (p .target) (value p b) r)
+
+-- the targets take the numbers of all these parts in byte b
+abbrev pub inRange : List Part → ℕ → Bool
+inRange [] b = true
+inRange (p ∷ ps) b = inRangeOf (p .target) (value p b) && inRange ps b
 
 abbrev pub noRow : Row
 noRow = row 0 0 []
