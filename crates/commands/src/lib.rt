@@ -3,6 +3,7 @@ ghost use mathlib.Core.Path.{_≡_};
 ghost use Rattle.commands.specs.Command.{commandOf};
 use registers::Registers;
 
+pub mod answer;
 mod pages;
 
 pub fn command(registers: Registers, byte: u8) -> Registers
