@@ -32,10 +32,11 @@ static uint64_t step_all(struct side *side)
 
 static void run_part(struct side *side, size_t from, size_t to)
 {
-    uint64_t done;
+    uint64_t done, unknown, out_of_range;
     side->sum += side->calls->run(side->record, WORDS, side->memory, PLACES, side->writers, PLACES,
-                                  stream.events + from, to - from, &done);
-    side->sum += done;
+                                  stream.events + from, to - from, &done, &unknown, &out_of_range);
+    /* Each by a weight of its own, so that counts that are exchanged make another sum. */
+    side->sum += done + 3 * unknown + 7 * out_of_range;
 }
 
 static uint64_t run_all(struct side *side)

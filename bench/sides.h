@@ -10,7 +10,7 @@ enum { WORDS = 35, PLACES = 1717, ROW_BYTES = 404, MOST_OUT = 1 << 18 };
 struct calls {
     uint64_t (*step)(uint64_t *, size_t, uint8_t *, size_t, uint64_t *, size_t, uint16_t);
     uint64_t (*run)(uint64_t *, size_t, uint8_t *, size_t, uint64_t *, size_t,
-                    const uint16_t *, size_t, uint64_t *);
+                    const uint16_t *, size_t, uint64_t *, uint64_t *, uint64_t *);
     uint64_t (*glass)(const uint64_t *, size_t, const uint8_t *, size_t, uint64_t, uint64_t);
     uint64_t (*pulse_row)(const uint64_t *, size_t, const uint8_t *, size_t, uint64_t,
                           uint8_t *, size_t);

@@ -1,5 +1,5 @@
 /* A small host: it draws, plays the drawing on a chip, and asks what the glass shows, who wrote it,
- * and how the four frames build it.
+ * and how the four frames build it. Then it sends commands that the chip does not take.
  *
  * Build and run, from the project's root:
  *
@@ -17,6 +17,11 @@ enum { WORDS = 35, PLACES = 1717, MOST_EVENTS = 1000 };
 enum { COLUMNS = 101, FRAMES = 4, MOST_PULSE = 16 };
 
 enum { DARK = 256, UNDRIVEN = 257 };
+
+enum { START = 256, STOP = 257 };
+
+/* What a step gives: a refusal below ACCEPTED, and for a command byte one of the other three. */
+enum { ACCEPTED = 256, TAKEN = 259, UNKNOWN = 260, OUT_OF_RANGE = 261 };
 
 /* All that a chip is made of. The host lends it to each call. */
 static uint64_t record[WORDS];
@@ -37,6 +42,9 @@ static const char drawing[] =
     "fill\t4\t8\t1\t2\t255\n"
     "put\t12\t1\t228\n"
     "put\t13\t1\t27\n";
+
+/* What a terminal sends: X 101, which is no column, X 100, and a byte of no command of page 0. */
+static const uint16_t message[] = { START, 0x78, 0x80, 0xE5, 0x80, 0xE4, 0x80, 0x02, STOP };
 
 /* Anything but 0 is a refusal. */
 static void must(const char *call, uint64_t result)
@@ -60,10 +68,14 @@ static uint64_t compile(void)
     return length;
 }
 
+/* The run also counts the commands that were acknowledged and not taken. */
 static void play(uint64_t length)
 {
-    uint64_t done;
-    must("run", pcf8820_run(record, WORDS, memory, PLACES, writers, PLACES, events, length, &done));
+    uint64_t done, unknown, out_of_range;
+    must("run", pcf8820_run(record, WORDS, memory, PLACES, writers, PLACES, events, length,
+                            &done, &unknown, &out_of_range));
+    printf("%llu done, commands unknown: %llu, out of range: %llu\n", (unsigned long long)done,
+           (unsigned long long)unknown, (unsigned long long)out_of_range);
 }
 
 /* 256 is dark, 257 undriven, 512 and above a level of 0 to 62, or 64. */
@@ -127,6 +139,26 @@ static void print_frames(uint64_t row)
            sums[3]);
 }
 
+static const char *told(uint64_t answer)
+{
+    switch (answer) {
+    case TAKEN: return "taken";
+    case UNKNOWN: return "unknown in this page";
+    case OUT_OF_RANGE: return "out of range";
+    default: return NULL;
+    }
+}
+
+/* The bus acknowledges every byte of the message. The answer to a command says what came of it. */
+static void send_event(uint16_t event)
+{
+    uint64_t answer = pcf8820_step(record, WORDS, memory, PLACES, writers, PLACES, event);
+    if (answer < ACCEPTED)
+        must("step", answer);
+    if (told(answer) != NULL)
+        printf("command %u: %s\n", event, told(answer));
+}
+
 int main(void)
 {
     must("reset", pcf8820_reset(record, WORDS, 0));
@@ -138,5 +170,7 @@ int main(void)
     print_pulses(6, 12);
     print_pulses(8, 6);
     print_frames(6);
+    for (size_t i = 0; i < sizeof message / sizeof message[0]; i++)
+        send_event(message[i]);
     return 0;
 }

@@ -99,9 +99,17 @@ uint64_t pcf8820_reset(uint64_t *record, size_t record_len, uint64_t pins);
  * Gives
  *   1..4     refused, nothing changed
  *   256      accepted, no answer: START, STOP, reset pulse and sensor reading
- *   257      a byte from the master, acknowledged
+ *   257      an address, control or display byte, acknowledged
  *   258      a byte from the master, not acknowledged
- *   512 + b  the byte b (0..255) was read: events 258 and 259 */
+ *   259      a command byte, acknowledged: taken
+ *   260      a command byte, acknowledged: unknown, no command of the present page
+ *   261      a command byte, acknowledged: out of range, X above 100, Y above 16 or page above 4
+ *   512 + b  the byte b (0..255) was read: events 258 and 259
+ *
+ * A command byte is a byte from the master in phase 4 or 5 with RS 0. The page and the byte alone
+ * decide between 259, 260 and 261, and not whether a register changes: no operation (0) and page
+ * return (1) in every page, row block swapping (64, 72, 80 and 88 in page 4) and a command that
+ * sets a register to what it held are taken. 260 and 261 leave every register as it was. */
 uint64_t pcf8820_step(uint64_t *record, size_t record_len,
                       uint8_t *memory, size_t memory_len,
                       uint64_t *writers, size_t writers_len,
@@ -111,13 +119,16 @@ uint64_t pcf8820_step(uint64_t *record, size_t record_len,
  * entry, even where there are no events; 3 and 4 at each event. The events before a refused one
  * stand: the record and the memories are left as the last of them made them.
  *
- * Gives 0 if all events were done, else the refusal, 1..4. *done is set in every case, to the number
- * of events done (0 for refusals 1 and 2). */
+ * Gives 0 if all events were done, else the refusal, 1..4. Three numbers are set in every case:
+ *   *done          how many events were done
+ *   *unknown       how many of these were unknown commands, for which pcf8820_step gives 260
+ *   *out_of_range  how many were commands out of range, for which it gives 261
+ * A refused event is in none of them. For refusals 1 and 2 all three are 0. */
 uint64_t pcf8820_run(uint64_t *record, size_t record_len,
                      uint8_t *memory, size_t memory_len,
                      uint64_t *writers, size_t writers_len,
                      const uint16_t *events, size_t events_len,
-                     uint64_t *done);
+                     uint64_t *done, uint64_t *unknown, uint64_t *out_of_range);
 
 /* The glass
  *

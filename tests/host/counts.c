@@ -37,13 +37,13 @@ static void try_steps(uint64_t count, const struct bus_phase *phase, uint16_t ev
 static void try_run(uint64_t count, const uint16_t *list, size_t length)
 {
     uint64_t words[MOST_WORDS];
-    uint64_t done;
+    struct ran ran;
     random_record(words);
     words[W_PINS] = 0;
     words[W_COUNT] = count;
     set_record(words);
-    compare_run(list, length, &done);
-    compare_run(list, length, &done);
+    compare_run(list, length, &ran);
+    compare_run(list, length, &ran);
 }
 
 void test_counts(void)

@@ -8,7 +8,7 @@
 #include <string.h>
 
 struct side {
-    struct lent record, memory, writers, events, done;
+    struct lent record, memory, writers, events, done, unknown, out_of_range;
 };
 
 static struct side model, library;
@@ -62,6 +62,8 @@ static void map_side(struct side *side)
     map_lent(&side->writers, MOST_PLACES * sizeof(uint64_t));
     map_lent(&side->events, MOST_EVENTS * sizeof(uint16_t));
     map_lent(&side->done, sizeof(uint64_t));
+    map_lent(&side->unknown, sizeof(uint64_t));
+    map_lent(&side->out_of_range, sizeof(uint64_t));
 }
 
 void harness_start(void)
@@ -79,6 +81,8 @@ static void lend_side(struct side *side, enum where where)
     put_lent(&side->writers, call.writers_len * sizeof(uint64_t), where);
     put_lent(&side->events, 0, where);
     put_lent(&side->done, sizeof(uint64_t), where);
+    put_lent(&side->unknown, sizeof(uint64_t), where);
+    put_lent(&side->out_of_range, sizeof(uint64_t), where);
 }
 
 void lend(size_t record_len, size_t memory_len, size_t writers_len, enum where where)
@@ -110,6 +114,11 @@ void set_record(const uint64_t *words)
     memcpy(library.record.at, words, library.record.bytes);
 }
 
+uint64_t word_now(size_t place)
+{
+    return words_of(&library.record)[place];
+}
+
 void save(struct state *state)
 {
     memcpy(state->record, library.record.at, library.record.bytes);
@@ -136,6 +145,15 @@ void expect_state(const struct state *state)
         || memcmp(state->memory, library.memory.at, library.memory.bytes) != 0
         || memcmp(state->writers, library.writers.at, library.writers.bytes) != 0)
         fail("the run and the single steps end in different states");
+}
+
+void expect_ran(const char *what, const struct ran *ran, const struct ran *right)
+{
+    if (memcmp(ran, right, sizeof *ran) != 0)
+        fail("%s: done %llu, unknown %llu, out of range %llu, and not %llu, %llu, %llu", what,
+             (unsigned long long)ran->done, (unsigned long long)ran->unknown,
+             (unsigned long long)ran->out_of_range, (unsigned long long)right->done,
+             (unsigned long long)right->unknown, (unsigned long long)right->out_of_range);
 }
 
 /* ---- Calls ------------------------------------------------------------------------------- */
@@ -178,30 +196,52 @@ uint64_t compare_step(uint16_t event)
     return compare_call(ours, theirs);
 }
 
-uint64_t compare_run(const uint16_t *events, size_t events_len, uint64_t *done)
+static void put_noise(struct lent *number)
 {
     uint64_t noise = random64();
+    fill_lent(number, &noise, sizeof noise);
+}
 
+/* Each number holds noise of its own, so that one that a side does not set is found to differ. */
+static void prepare_run(struct side *side, const uint16_t *events, size_t events_len)
+{
+    fill_lent(&side->events, events, events_len * sizeof *events);
+    put_noise(&side->done);
+    put_noise(&side->unknown);
+    put_noise(&side->out_of_range);
+}
+
+static void compare_ran(struct ran *ran)
+{
+    compare_lent("done", sizeof(uint64_t), &model.done, &library.done);
+    compare_lent("unknown", sizeof(uint64_t), &model.unknown, &library.unknown);
+    compare_lent("out_of_range", sizeof(uint64_t), &model.out_of_range, &library.out_of_range);
+    ran->done = *words_of(&library.done);
+    ran->unknown = *words_of(&library.unknown);
+    ran->out_of_range = *words_of(&library.out_of_range);
+}
+
+uint64_t compare_run(const uint16_t *events, size_t events_len, struct ran *ran)
+{
     note_call("run", print_run);
     call.events = events;
     call.events_len = events_len;
-    fill_lent(&model.events, events, events_len * sizeof *events);
-    fill_lent(&library.events, events, events_len * sizeof *events);
-    fill_lent(&model.done, &noise, sizeof noise);
-    fill_lent(&library.done, &noise, sizeof noise);
+    prepare_run(&model, events, events_len);
+    prepare_run(&library, events, events_len);
     uint64_t theirs = pcf8820_run(words_of(&library.record), call.record_len,
                                   library.memory.at, call.memory_len,
                                   words_of(&library.writers), call.writers_len,
-                                  events_of(&library.events), events_len, words_of(&library.done));
+                                  events_of(&library.events), events_len, words_of(&library.done),
+                                  words_of(&library.unknown), words_of(&library.out_of_range));
     uint64_t ours = model_run(words_of(&model.record), call.record_len,
                               model.memory.at, call.memory_len,
                               words_of(&model.writers), call.writers_len,
-                              events_of(&model.events), events_len, words_of(&model.done));
+                              events_of(&model.events), events_len, words_of(&model.done),
+                              words_of(&model.unknown), words_of(&model.out_of_range));
     compare_call(ours, theirs);
-    compare_lent("done", sizeof(uint64_t), &model.done, &library.done);
+    compare_ran(ran);
     compare_lent("events", sizeof(uint16_t), &model.events, &library.events);
     if (memcmp(events, model.events.at, events_len * sizeof *events) != 0)
         fail("the events were changed");
-    *done = *words_of(&library.done);
     return theirs;
 }

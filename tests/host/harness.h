@@ -1,7 +1,7 @@
 /* The chip's calls: reset, step and run, made on the library and on the model, and the comparison of
  * everything they give and change.
  *
- * Each side has its own record, memory, writers, events and done number. */
+ * Each side has its own record, memory, writers, events and numbers of a run. */
 #ifndef HARNESS_H
 #define HARNESS_H
 
@@ -16,6 +16,14 @@ enum {
     PLACES = 1717, MOST_PLACES = PLACES + 1,
     RECORD_LEN = 35, MOST_WORDS = RECORD_LEN + 1,
     MOST_EVENTS = 80000
+};
+
+/* What a step answers to a byte from the master. */
+enum { ACK = 257, NACK, COMMAND_TAKEN, COMMAND_UNKNOWN, COMMAND_OUT_OF_RANGE };
+
+/* The numbers that a run sets. */
+struct ran {
+    uint64_t done, unknown, out_of_range;
 };
 
 /* The record and the memories, kept aside. */
@@ -36,6 +44,9 @@ void lend_usual(void);
 /* Gives both sides this record, as many words as the lent one has. words has MOST_WORDS words. */
 void set_record(const uint64_t *words);
 
+/* A word of the record as it is now. */
+uint64_t word_now(size_t place);
+
 /* Keeps the record and the memories as they are now, and gives them back to both sides. */
 void save(struct state *state);
 void restore(const struct state *state);
@@ -43,9 +54,12 @@ void restore(const struct state *state);
 /* Fails unless record and memories are now as in this state. */
 void expect_state(const struct state *state);
 
+/* Fails unless the numbers of a run are the right ones. */
+void expect_ran(const char *what, const struct ran *ran, const struct ran *right);
+
 /* Make the call on both sides and compare. They give the common result. */
 uint64_t compare_reset(uint64_t pins);
 uint64_t compare_step(uint16_t event);
-uint64_t compare_run(const uint16_t *events, size_t events_len, uint64_t *done);
+uint64_t compare_run(const uint16_t *events, size_t events_len, struct ran *ran);
 
 #endif

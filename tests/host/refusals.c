@@ -17,15 +17,15 @@ static const uint16_t cut_events[] = { 256, 0x78, 0x40, 0x11, 768, 0x22, 257 };
 
 static void run_lists(const uint64_t *words)
 {
-    uint64_t done;
+    struct ran ran;
     set_record(words);
-    compare_run(good_event, 0, &done);
+    compare_run(good_event, 0, &ran);
     set_record(words);
-    compare_run(good_event, 1, &done);
+    compare_run(good_event, 1, &ran);
     set_record(words);
-    compare_run(bad_event, 1, &done);
+    compare_run(bad_event, 1, &ran);
     set_record(words);
-    compare_run(cut_events, sizeof cut_events / sizeof cut_events[0], &done);
+    compare_run(cut_events, sizeof cut_events / sizeof cut_events[0], &ran);
 }
 
 /* One record, with each count and each event. */

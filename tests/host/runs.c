@@ -1,5 +1,6 @@
 /* Long random traffic: first step by step, then the same events by run, which must end in the same
- * state. Refused events in the middle cut the run; it is then taken up again behind them. */
+ * state and count what the steps answered. Refused events in the middle cut the run; it is then
+ * taken up again behind them. */
 #include "harness.h"
 #include "records.h"
 #include "themes.h"
@@ -109,31 +110,59 @@ static void make_list(uint64_t pins, size_t events, uint64_t refused)
         list[below(length)] = unlisted_event();
 }
 
-/* Runs on behind each refused event to the end of the list. */
-static void run_through(void)
+/* Step by step; a refused event changes nothing and is not counted. */
+static struct ran step_through(void)
 {
+    struct ran sum = { 0 };
+    for (size_t i = 0; i < length; i++) {
+        uint64_t answer = compare_step(list[i]);
+        sum.done += answer >= 256;
+        sum.unknown += answer == COMMAND_UNKNOWN;
+        sum.out_of_range += answer == COMMAND_OUT_OF_RANGE;
+    }
+    return sum;
+}
+
+static uint64_t run_part(size_t from, size_t part, struct ran *sum, uint64_t *done)
+{
+    struct ran ran;
+    uint64_t refusal = compare_run(list + from, part, &ran);
+    sum->done += ran.done;
+    sum->unknown += ran.unknown;
+    sum->out_of_range += ran.out_of_range;
+    *done = ran.done;
+    return refusal;
+}
+
+/* Runs on behind each refused event to the end of the list. */
+static struct ran run_through(void)
+{
+    struct ran sum = { 0 };
     size_t from = 0;
     while (from <= length) {
         uint64_t done;
-        uint64_t refusal = compare_run(list + from, length - from, &done);
+        uint64_t refusal = run_part(from, length - from, &sum, &done);
         from += (size_t)done + 1;
         if (refusal == 0)
             break;
     }
+    return sum;
 }
 
 /* The same events by several runs, cut anywhere. */
-static void run_in_parts(void)
+static struct ran run_in_parts(void)
 {
+    struct ran sum = { 0 };
     size_t from = 0;
     while (from < length) {
         uint64_t done;
         size_t part = (size_t)below(200);
         if (part > length - from)
             part = length - from;
-        uint64_t refusal = compare_run(list + from, part, &done);
+        uint64_t refusal = run_part(from, part, &sum, &done);
         from += (size_t)done + (refusal != 0);
     }
+    return sum;
 }
 
 static void try_traffic(size_t events, uint64_t refused)
@@ -149,27 +178,28 @@ static void try_traffic(size_t events, uint64_t refused)
     make_list(words[W_PINS], events, refused);
 
     save(&before);
-    for (size_t i = 0; i < length; i++)
-        compare_step(list[i]);
+    struct ran steps = step_through();
     save(&after);
     restore(&before);
-    run_through();
+    struct ran runs = run_through();
     expect_state(&after);
+    expect_ran("the runs against the steps", &runs, &steps);
     restore(&before);
-    run_in_parts();
+    runs = run_in_parts();
     expect_state(&after);
+    expect_ran("the parts against the steps", &runs, &steps);
 }
 
 /* Single runs of any length up to a few hundred, from every kind of record. */
 static void try_short(int times)
 {
     uint64_t words[MOST_WORDS];
-    uint64_t done;
+    struct ran ran;
     for (int i = 0; i < times; i++) {
         random_record(words);
         set_record(words);
         make_list(words[W_PINS], (size_t)below(i % 10 ? 20 : 300), below(8) == 0);
-        compare_run(list, length, &done);
+        compare_run(list, length, &ran);
     }
 }
 

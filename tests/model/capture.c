@@ -96,10 +96,11 @@ uint64_t play_capture(FILE *file, struct played *played)
     if (model_reset(played->record, WORDS, pins_line(&reader)) != 0)
         return lines;
     while (stopped != NO_LINE) {
-        uint64_t done;
+        uint64_t done, unknown, out_of_range;
         size_t count = take_lines(&reader, events, &stopped);
         uint64_t refusal = model_run(played->record, WORDS, played->memory, PLACES,
-                                     played->writers, PLACES, events, count, &done);
+                                     played->writers, PLACES, events, count, &done,
+                                     &unknown, &out_of_range);
         lines += done;
         if (refusal != 0 || stopped == BAD_LINE)
             return lines + 1;

@@ -1,5 +1,6 @@
-/* Checks the model itself, with no library: the marked cases of the paper, and that the events of a
- * drawing list, played on the model's chip from any state, do what the plain reading says. */
+/* Checks the model itself, with no library: the marked cases of the papers, the answers to
+ * commands, and that the events of a drawing list, played on the model's chip from any state, do
+ * what the plain reading says. */
 #include "compile.h"
 #include "glass.h"
 #include "lists.h"
@@ -13,7 +14,9 @@
 #include <stdlib.h>
 #include <string.h>
 
-enum { START = 256, STOP = 257, NOTHING = 256, ACK = 257, LEVEL = 512, MOST_EVENTS = 1 << 20 };
+enum { START = 256, STOP = 257, LEVEL = 512, MOST_EVENTS = 1 << 20 };
+
+enum { NOTHING = 256, ACK = 257, TAKEN = 259, UNKNOWN = 260, OUT_OF_RANGE = 261 };
 
 static const uint64_t LIT = (uint64_t)1 << 32;
 
@@ -26,7 +29,7 @@ struct chip {
 
 static struct text text;
 static uint16_t events[MOST_EVENTS];
-static unsigned long long streams, pixels;
+static unsigned long long streams, pixels, commands;
 
 static void require(bool holds, const char *what)
 {
@@ -203,6 +206,60 @@ static void check_pulses(void)
     }
 }
 
+/* ---- Answers to commands ----------------------------------------------------------------- */
+
+/* Document 02, W5, with the rows of the data sheet: how many bytes of each page, 0 to 4, are taken
+ * and how many are out of range; the others are unknown. Two are taken in every page, no operation
+ * and page return. */
+static const struct {
+    unsigned taken, out_of_range;
+} answered[] = {
+    { 2 + 5 + 8 + 17 + 101, 3 + 15 + 27 },
+    { 2 + 4 + 8 + 8 + 2 + 8, 0 },
+    { 2 + 4 + 8 + 8 + 2 + 128, 0 },
+    { 2 + 4 + 64, 0 },
+    { 2 + 4 + 4 + 4, 0 },
+};
+
+static uint64_t answer_to(unsigned page, unsigned byte)
+{
+    static struct chip chip;
+    model_reset(chip.record, WORDS, 0);
+    chip.record[H] = page;
+    chip.record[PHASE] = 5;
+    commands++;
+    return model_step(chip.record, WORDS, chip.memory, PLACES, chip.writers, PLACES,
+                      (uint16_t)byte);
+}
+
+static void check_answers(unsigned page)
+{
+    unsigned taken = 0;
+    unsigned unknown = 0;
+    unsigned out_of_range = 0;
+    for (unsigned byte = 0; byte < 256; byte++) {
+        uint64_t answer = answer_to(page, byte);
+        taken += answer == TAKEN;
+        unknown += answer == UNKNOWN;
+        out_of_range += answer == OUT_OF_RANGE;
+    }
+    require(taken == answered[page].taken, "how many commands of a page are taken");
+    require(out_of_range == answered[page].out_of_range, "how many are out of range");
+    require(taken + unknown + out_of_range == 256, "every other command is unknown");
+}
+
+static void check_commands(void)
+{
+    require(answer_to(0, 0x80 + 100) == TAKEN && answer_to(0, 0x80 + 101) == OUT_OF_RANGE, "X 100");
+    require(answer_to(0, 0x40 + 16) == TAKEN && answer_to(0, 0x40 + 17) == OUT_OF_RANGE, "Y 16");
+    require(answer_to(0, 0x08 + 4) == TAKEN && answer_to(0, 0x08 + 5) == OUT_OF_RANGE, "page 4");
+    for (unsigned page = 0; page <= 4; page++) {
+        check_answers(page);
+        require(answer_to(page, 0) == TAKEN && answer_to(page, 1) == TAKEN, "rows of every page");
+        require((answer_to(page, 0x58) == TAKEN) == (page == 4), "row block swapping");
+    }
+}
+
 /* ---- Playing ----------------------------------------------------------------------------- */
 
 static struct chip random_chip(void)
@@ -251,21 +308,32 @@ static bool equal_chips(const struct chip *one, const struct chip *other)
            && memcmp(one->writers, other->writers, sizeof one->writers) == 0;
 }
 
+/* A byte in phase 4 or 5 with RS 0 is a command. */
+static uint64_t good_answer(const uint64_t *record, uint16_t event)
+{
+    bool content = record[PHASE] == 4 || record[PHASE] == 5;
+    if (event >= 256)
+        return NOTHING;
+    return content && record[PHASE_RS] == 0 ? TAKEN : ACK;
+}
+
 static void play_text(const struct chip *start)
 {
     struct chip stepped = *start;
     struct chip run = *start;
-    uint64_t done;
+    uint64_t done, unknown, out_of_range;
     uint64_t length = compile_text(start);
 
     for (uint64_t i = 0; i < length; i++) {
-        uint64_t answer = model_step(stepped.record, WORDS, stepped.memory, PLACES,
-                                     stepped.writers, PLACES, events[i]);
-        require(answer == (events[i] < 256 ? ACK : NOTHING), "every byte is acknowledged");
+        uint64_t right = good_answer(stepped.record, events[i]);
+        require(model_step(stepped.record, WORDS, stepped.memory, PLACES, stepped.writers, PLACES,
+                           events[i]) == right,
+                "every byte is acknowledged, and every command taken");
     }
     uint64_t refusal = model_run(run.record, WORDS, run.memory, PLACES, run.writers, PLACES,
-                                 events, length, &done);
+                                 events, length, &done, &unknown, &out_of_range);
     require(refusal == 0 && done == length, "the run takes every event");
+    require(unknown == 0 && out_of_range == 0, "no command is counted as unknown or out of range");
     require(equal_chips(&run, &stepped), "the run ends like the steps");
     check_end(start, &run, length);
     streams++;
@@ -309,9 +377,11 @@ int main(void)
     check_marked_pixels();
     check_levels();
     check_pulses();
+    check_commands();
     play_starts();
     play_random(2000, 12);
     play_random(50, 200);
-    printf("model: %llu streams and %llu pixels, as the papers have them\n", streams, pixels);
+    printf("model: %llu streams, %llu pixels and %llu commands, as the papers have them\n", streams,
+           pixels, commands);
     return 0;
 }

@@ -15,7 +15,7 @@ enum event { START = 256, STOP, READ_ACK, READ_NACK, RESET_PULSE, SENSOR = 512 }
 
 enum refusal { BAD_MEMORY = 1, BAD_RECORD, BAD_EVENT, COUNT_FULL };
 
-enum answer { NOTHING = 256, ACK, NACK, BYTE_READ = 512 };
+enum answer { NOTHING = 256, ACK, NACK, TAKEN, UNKNOWN, OUT_OF_RANGE, BYTE_READ = 512 };
 
 /* The largest allowed value of each word but the count. */
 static const uint8_t limit[] = {
@@ -79,8 +79,9 @@ static const struct row rows[] = {
 
 enum { ROWS = sizeof rows / sizeof rows[0] };
 
-/* What a command byte does: it gives these fields these values. */
+/* A command byte's answer, and what it does: it gives these fields these values. */
 struct effect {
+    uint16_t answer;
     uint8_t fields;
     uint8_t field[MOST_FIELDS];
     uint8_t value[MOST_FIELDS];
@@ -114,13 +115,16 @@ static uint8_t bits_under(const char *pattern, char letter, unsigned byte)
     return (uint8_t)value;
 }
 
-/* A value above the field's limit leaves the field as it is. */
+/* A value above the field's limit leaves the field as it is, and is told. */
 static void add_effect(struct effect *effect, const struct row *row, unsigned byte)
 {
+    effect->answer = TAKEN;
     for (size_t i = 0; row->letters[i] != '\0'; i++) {
         uint8_t value = bits_under(row->pattern, row->letters[i], byte);
-        if (value > limit[row->fields[i]])
+        if (value > limit[row->fields[i]]) {
+            effect->answer = OUT_OF_RANGE;
             continue;
+        }
         effect->field[effect->fields] = row->fields[i];
         effect->value[effect->fields] = value;
         effect->fields++;
@@ -130,10 +134,12 @@ static void add_effect(struct effect *effect, const struct row *row, unsigned by
 static void fill_effects(void)
 {
     for (int page = 0; page <= LAST_PAGE; page++)
-        for (unsigned byte = 0; byte < 256; byte++)
+        for (unsigned byte = 0; byte < 256; byte++) {
+            effects[page][byte].answer = UNKNOWN;
             for (int r = 0; r < ROWS; r++)
                 if (takes(&rows[r], page, byte))
                     add_effect(&effects[page][byte], &rows[r], byte);
+        }
     effects_ready = true;
 }
 
@@ -145,7 +151,7 @@ int model_row(int page, unsigned byte)
     return r;
 }
 
-static void take_command(struct chip *chip, uint8_t byte)
+static uint64_t take_command(struct chip *chip, uint8_t byte)
 {
     const struct effect *effect = &effects[chip->now[H]][byte];
     for (int i = 0; i < effect->fields; i++) {
@@ -154,6 +160,7 @@ static void take_command(struct chip *chip, uint8_t byte)
             field = GS0 + chip->now[GR];
         chip->now[field] = effect->value[i];
     }
+    return effect->answer;
 }
 
 /* ---- Display bytes ----------------------------------------------------------------------- */
@@ -179,7 +186,7 @@ static void advance(uint8_t *first, uint8_t first_last, uint8_t *second, uint8_t
     *second = *second < second_last ? *second + 1 : 0;
 }
 
-static void take_display_byte(struct chip *chip, uint8_t byte)
+static uint64_t take_display_byte(struct chip *chip, uint8_t byte)
 {
     uint8_t *x = &chip->now[X];
     uint8_t *y = &chip->now[Y];
@@ -197,6 +204,7 @@ static void take_display_byte(struct chip *chip, uint8_t byte)
         advance(y, BANKS - 1, x, COLUMNS - 1);
     else
         advance(x, COLUMNS - 1, y, BANKS - 1);
+    return ACK;
 }
 
 /* ---- Bus events -------------------------------------------------------------------------- */
@@ -230,11 +238,7 @@ static uint64_t take_written(struct chip *chip, uint8_t byte)
     uint8_t rs = chip->now[PHASE_RS];
     if (chip->now[PHASE] == ONE_BYTE)
         enter(chip, CONTROL, 0);
-    if (rs)
-        take_display_byte(chip, byte);
-    else
-        take_command(chip, byte);
-    return ACK;
+    return rs ? take_display_byte(chip, byte) : take_command(chip, byte);
 }
 
 static uint64_t take_byte(struct chip *chip, uint8_t byte)
@@ -383,15 +387,19 @@ uint64_t model_run(uint64_t *record, size_t record_len,
                    uint8_t *memory, size_t memory_len,
                    uint64_t *writers, size_t writers_len,
                    const uint16_t *events, size_t events_len,
-                   uint64_t *done)
+                   uint64_t *done, uint64_t *unknown, uint64_t *out_of_range)
 {
     struct chip chip = { .memory = memory, .writers = writers };
     uint64_t refusal = 0;
+    uint64_t unknown_commands = 0;
+    uint64_t commands_out_of_range = 0;
     size_t i;
 
     if (!effects_ready)
         fill_effects();
     *done = 0;
+    *unknown = 0;
+    *out_of_range = 0;
     if (memory_len != PLACES || writers_len != PLACES)
         return BAD_MEMORY;
     if (!load(&chip, record, record_len))
@@ -402,8 +410,12 @@ uint64_t model_run(uint64_t *record, size_t record_len,
             refusal = result;
             break;
         }
+        unknown_commands += result == UNKNOWN;
+        commands_out_of_range += result == OUT_OF_RANGE;
     }
     store(&chip, record);
     *done = i;
+    *unknown = unknown_commands;
+    *out_of_range = commands_out_of_range;
     return refusal;
 }

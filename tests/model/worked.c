@@ -4,7 +4,8 @@
  *
  *   case NAME
  *   answers A1 A2 ...                one for each event, up to the first refused one
- *   done N refusal R                 of a run over the whole list on a fresh chip, R 0 if none
+ *   done N refusal R unknown U out-of-range O
+ *                                    of a run over the whole list on a fresh chip, R 0 if none
  *   record W0 W1 ... W34             after that run
  *   cell COLUMN BANK BYTE EVENT      one for each written place, by bank, then column
  *   pulses ROW 5 P0 P1 P2 P3         one for each of the glass's rows 8 to 11 that is lit in column 5 */
@@ -60,6 +61,8 @@ static const struct worked cases[] = {
     { "single-data-bytes", 0, "S 78 C0 11 C0 22 80 01 40 33 P" },
     { "byte-while-reading", 0, "S 79 33 258 44 P" },
     { "unknown-commands", 0, "S 78 80 02 80 20 80 0D 80 51 80 0C 80 FF 80 01 P" },
+    { "taken-unknown-out-of-range", 0,
+      "S 78 80 E5 80 02 80 00 80 E4 00 E4 51 43 0D 01 S 78 40 E5 P" },
     { "grey-levels", 0, "S 78 80 0B 80 41 80 94 80 43 80 BF P" },
     { "row-block-swapping", 0, "S 78 80 0C 80 58 80 00 80 01 P" },
     { "pulses-17-30-63", 0,
@@ -167,15 +170,17 @@ static void print_pulses(const struct chip *chip)
 static void print_case(const char *name, uint64_t pins, const struct list *list)
 {
     struct chip chip;
-    uint64_t done;
+    uint64_t done, unknown, out_of_range;
     uint64_t refusal;
 
     printf("case %s\n", name);
     print_answers(list, pins);
     start(&chip, pins);
     refusal = model_run(chip.record, WORDS, chip.memory, PLACES, chip.writers, PLACES,
-                        list->events, list->length, &done);
-    printf("done %llu refusal %llu\n", (unsigned long long)done, (unsigned long long)refusal);
+                        list->events, list->length, &done, &unknown, &out_of_range);
+    printf("done %llu refusal %llu unknown %llu out-of-range %llu\n", (unsigned long long)done,
+           (unsigned long long)refusal, (unsigned long long)unknown,
+           (unsigned long long)out_of_range);
     print_record(&chip);
     print_cells(&chip);
     print_pulses(&chip);

@@ -3,7 +3,7 @@ use mathlib.Core.List.{[], _∷_}
 use mathlib.Core.Path.{refl}
 use native.Mathlib.Omega.{arith}
 use lib.Dec.{T}
-use Rattle.cases_proved.specs.Cited.{Fill, bytes, Demand3, allowed, rowAt, commandOf, storedOf, placeOf, nextAddress, refusalOf, applied}
+use Rattle.cases_proved.specs.Cited.{Fill, bytes, Demand3, allowed, rowAt, commandOf, answerTo, storedOf, placeOf, nextAddress, refusalOf, applied}
 use Rattle.cases_proved.specs.Cited.{accepted, stepOf}
 use Rattle.cases_proved.specs.Cited.{entryRefusal, eventRefusal, isAddressed, phaseAfterAddress, phaseAfterLastRead, acknowledge}
 use Rattle.cases_proved.specs.Cited.{isAcknowledged, controlled, readByte, pulsed, sensed, counted, columnOf}
@@ -15,7 +15,7 @@ use Rattle.cases_proved.specs.Marked.{holds, marked, putEvents}
 
 pub all-marked : T (eachPasses holds marked)
 unfolding holds marked
-    stepOf refusalOf accepted applied allowed commandOf rowAt storedOf placeOf nextAddress
+    stepOf refusalOf accepted applied allowed commandOf answerTo rowAt storedOf placeOf nextAddress
     entryRefusal eventRefusal isAddressed phaseAfterAddress phaseAfterLastRead acknowledge isAcknowledged controlled readByte pulsed sensed counted columnOf
     placeRefusal glassRefusal glassOf
     compileOf readingOf readingFrom lineOf numberOf stream lineEvents setTo

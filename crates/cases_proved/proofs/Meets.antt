@@ -8,14 +8,30 @@ use lib.ListN.{getD, length}
 use Rattle.registers.proofs.Below.{and-left, and-right}
 use Rattle.text.proofs.Finding.{same-equal}
 use Rattle.chip.proofs.Plays.{plays-good, plays-run}
+use Rattle.chip.proofs.Tallies.{plays-tally}
 use Rattle.cases_proved.specs.Cited.{Line, State, values, ofValues, Picture, pictureOf, plainReading, Demand3}
 use Rattle.cases_proved.specs.Cited.{Fit, isAcknowledged, refusalOf, stepOf}
-use Rattle.cases_proved.specs.Cited.{before, played, Good, Plays, sameBytes}
+use Rattle.cases_proved.specs.Cited.{before, played, Good, Plays, sameBytes, awaitsCommand}
+use Rattle.cases_proved.specs.Cited.{Answer, Refused, Nothing, Acknowledged, NotAcknowledged, Command, Read, Taken, Unknown, OutOfRange}
 
 -- ---- the test
 
+abbrev isTaken : Answer → Bool
+isTaken (Refused k) = false
+isTaken Nothing = false
+isTaken Acknowledged = false
+isTaken NotAcknowledged = false
+isTaken (Command Taken) = true
+isTaken (Command Unknown) = false
+isTaken (Command OutOfRange) = false
+isTaken (Read b) = false
+
+-- of a byte: acknowledged, and taken where it is a command
+abbrev isAnswered : State → Answer → Bool
+isAnswered s a = isAcknowledged a && (not (awaitsCommand (s .chip .phase)) || isTaken a)
+
 abbrev isGood : ℕ → State → Bool
-isGood e s = eqb (refusalOf e s) 0 && (not (ltb e 256) || isAcknowledged (stepOf e s .answer))
+isGood e s = eqb (refusalOf e s) 0 && (not (ltb e 256) || isAnswered s (stepOf e s .answer))
 
 abbrev allGood : List ℕ → State → Bool
 allGood [] s = true
@@ -40,10 +56,15 @@ same-self (x ∷ xs) = and-both (eqb x x) (sameBytes xs xs) (eqb-refl x) (same-s
 pub not-same : (xs ys : List ℕ) → T (not (sameBytes xs ys)) → xs ≡ ys → ⊥
 not-same xs ys t e = T-not (sameBytes xs ys) t (subst (λ (zs : List ℕ). T (sameBytes xs zs)) e (same-self xs))
 
+pub is-true : (b : Bool) → T b → b ≡ true
+is-true true t = refl
+is-true false t = absurd t
+
 good-holds : (e : ℕ) (s : State) → Good e s → T (isGood e s)
 good-holds e s g =
     and-both (eqb (refusalOf e s) 0) _ (subst (λ (n : ℕ). T (eqb n 0)) (sym (g .not-refused)) tt)
-    (either (ltb e 256) _ (λ t. subst T (sym (g .acknowledged (ltb→lt e 256 t))) tt))
+    (either (ltb e 256) _ (λ t. and-both (isAcknowledged (stepOf e s .answer)) _ (subst T (sym (g .acknowledged (ltb→lt e 256 t))) tt)
+    (either (awaitsCommand (s .chip .phase)) _ (λ c. subst (λ (a : Answer). T (isTaken a)) (sym (g .taken (ltb→lt e 256 t) (is-true _ c))) tt))))
   where
     either : (a b : Bool) → (T a → T b) → T (not a || b)
     either true b f = f tt
@@ -64,20 +85,30 @@ meets-holds ls es s d =
 
 -- ---- and where the test is passed, demand 3 holds
 
-pub is-true : (b : Bool) → T b → b ≡ true
-is-true true t = refl
-is-true false t = absurd t
+taken-is : (a : Answer) → T (isTaken a) → a ≡ Command Taken
+taken-is (Refused k) t = absurd t
+taken-is Nothing t = absurd t
+taken-is Acknowledged t = absurd t
+taken-is NotAcknowledged t = absurd t
+taken-is (Command Taken) t = refl
+taken-is (Command Unknown) t = absurd t
+taken-is (Command OutOfRange) t = absurd t
+taken-is (Read b) t = absurd t
 
 good-is : (e : ℕ) (s : State) → T (isGood e s) → Good e s
 good-is e s t =
     record {
       not-refused = eqb→eq (refusalOf e s) 0 (and-left (eqb (refusalOf e s) 0) _ t);
-      acknowledged = λ h. is-true _ (said (ltb e 256) _ (lt→ltb e 256 h) (and-right (eqb (refusalOf e s) 0) _ t));
+      acknowledged = λ h. is-true _ (and-left (isAcknowledged (stepOf e s .answer)) _ (answered h));
+      taken = λ h c. taken-is _ (said (awaitsCommand (s .chip .phase)) _ (subst T (sym c) tt) (and-right (isAcknowledged (stepOf e s .answer)) _ (answered h)));
     }
   where
     said : (a b : Bool) → T a → T (not a || b) → T b
     said true b t u = u
     said false b t u = absurd t
+
+    answered : e < 256 → T (isAnswered s (stepOf e s .answer))
+    answered h = said (ltb e 256) _ (lt→ltb e 256 h) (and-right (eqb (refusalOf e s) 0) _ t)
 
 plays-is : (es : List ℕ) (s : State) → T (allGood es s) → Plays es (λ (t : State). Unit {0}) s
 unfolding Plays
@@ -98,4 +129,6 @@ meets-is ls es s fit t =
       all-good = plays-good es _ s plays;
       same-picture = picture-is _ _ (and-right (allGood es s) _ t);
       same-run = plays-run es _ s fit plays;
+      none-unknown = plays-tally Unknown refl es _ s plays;
+      none-out-of-range = plays-tally OutOfRange refl es _ s plays;
     }

@@ -8,7 +8,7 @@ use lib.Dec.{T, T-not, ltb, ltb→lt}
 use lib.ListN.{length, take}
 use Rattle.registers.proofs.Below.{and-left, and-right}
 use Rattle.cases_proved.specs.Cited.{Line, Reading, faulty, lines, linesOf, bytes, sameBytes, blank, Fit, Demand3, Draws}
-use Rattle.cases_proved.specs.Cited.{allowed, rowAt, commandOf, storedOf, placeOf, nextAddress, refusalOf, applied, accepted, stepOf}
+use Rattle.cases_proved.specs.Cited.{allowed, rowAt, commandOf, answerTo, storedOf, placeOf, nextAddress, refusalOf, applied, accepted, stepOf}
 use Rattle.cases_proved.specs.Cited.{entryRefusal, eventRefusal, isAddressed, phaseAfterAddress, phaseAfterLastRead, acknowledge}
 use Rattle.cases_proved.specs.Cited.{isAcknowledged, controlled, readByte, pulsed, sensed, counted, columnOf}
 use Rattle.cases_proved.specs.Cited.{numberOf, lineOf, readingFrom, readingOf, filled, setTo, lineEvents, stream}
@@ -92,14 +92,14 @@ other-row o t =
 
 all-wrong : T (eachPasses isWrong wrongOutputs)
 unfolding wrongOutputs
-    stepOf refusalOf accepted applied allowed commandOf rowAt storedOf placeOf nextAddress
+    stepOf refusalOf accepted applied allowed commandOf answerTo rowAt storedOf placeOf nextAddress
     entryRefusal eventRefusal isAddressed phaseAfterAddress phaseAfterLastRead acknowledge isAcknowledged controlled readByte pulsed sensed counted columnOf
     readingOf readingFrom lineOf numberOf setTo filled
 all-wrong = tt
 
 all-other : T (eachPasses isOther otherOutputs)
 unfolding otherOutputs
-    stepOf refusalOf accepted applied allowed commandOf rowAt storedOf placeOf nextAddress
+    stepOf refusalOf accepted applied allowed commandOf answerTo rowAt storedOf placeOf nextAddress
     entryRefusal eventRefusal isAddressed phaseAfterAddress phaseAfterLastRead acknowledge isAcknowledged controlled readByte pulsed sensed counted columnOf
     readingOf readingFrom lineOf numberOf setTo filled stream lineEvents
 all-other = tt

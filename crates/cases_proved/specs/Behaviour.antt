@@ -2,18 +2,20 @@
 use mathlib.Core.Bool.{cond}
 use mathlib.Core.List.{List, [], _∷_}
 use Prim.Native.Nat.{ℕ, _+_, _*_}
-use Rattle.cases_proved.specs.Cited.{getD, values, State, Answer, After, answerNumber, stepOf, Outcome, runOf, lastAnswer}
+use Rattle.cases_proved.specs.Cited.{getD, values, State, Answer, After, answerNumber, stepOf, Outcome, runOf, lastAnswer, tally, Unknown, OutOfRange}
 
 -- ---- a chip, and what can be seen of it
 
--- what one event does, what a run does, and how its last event is answered
+-- what one event does, what a run does, how its last event is answered, and how many of its commands were unknown and out of range
 pub record Behaviour : Type 0 where
   pub step : ℕ → State → After
   pub run : List ℕ → State → Outcome
   pub last : List ℕ → State → Answer
+  pub unknown : List ℕ → State → ℕ
+  pub out-of-range : List ℕ → State → ℕ
 
 unfoldable pub chip : Behaviour
-chip = record { step = stepOf; run = runOf; last = lastAnswer }
+chip = record { step = stepOf; run = runOf; last = lastAnswer; unknown = tally Unknown; out-of-range = tally OutOfRange }
 
 abbrev pub register : ℕ → State → ℕ
 register f s = getD (values (s .chip .registers)) f 0
@@ -61,6 +63,13 @@ runRefusal s es b = b .run es s .refusal
 abbrev pub runAnswer : State → List ℕ → Behaviour → ℕ
 runAnswer s es b = answerNumber (b .last es s)
 
+-- what it counts
+abbrev pub runUnknown : State → List ℕ → Behaviour → ℕ
+runUnknown s es b = b .unknown es s
+
+abbrev pub runOutOfRange : State → List ℕ → Behaviour → ℕ
+runOutOfRange s es b = b .out-of-range es s
+
 -- ---- events and answers by name
 
 abbrev pub START : ℕ
@@ -90,6 +99,16 @@ acknowledged = 257
 
 abbrev pub notAcknowledged : ℕ
 notAcknowledged = 258
+
+-- the three answers to a command byte
+abbrev pub commandTaken : ℕ
+commandTaken = 259
+
+abbrev pub commandUnknown : ℕ
+commandUnknown = 260
+
+abbrev pub commandOutOfRange : ℕ
+commandOutOfRange = 261
 
 abbrev pub byteRead : ℕ → ℕ
 byteRead n = 512 + n

@@ -1,10 +1,11 @@
 -- Wrong calls: what the calls of a host in C give for chosen words and buffers, and what a wrong one would give.
+use mathlib.Core.Bool.{false}
 use mathlib.Core.List.{List, [], _∷_}
 use Prim.Native.Nat.{ℕ, _+_, _^_}
 use Prim.Native.String.{String}
-use Rattle.cases_proved.specs.Cited.{PD, X, PINS, COUNT, replicate, getD, bytes, wordsOf, Reset, resetCall, Stepped, stepCall, Ran, runCall}
+use Rattle.cases_proved.specs.Cited.{PD, X, PINS, COUNT, replicate, getD, bytes, EndlessBytes, inPhase, wordsOf, Reset, resetCall, Stepped, stepCall, Ran, runCall}
 use Rattle.cases_proved.specs.Cited.{glassCall, placeCall, PulseRow, pulsesCall, pulseRowCall, Compiled, compileCall}
-use Rattle.cases_proved.specs.Behaviour.{START, nothing, acknowledged}
+use Rattle.cases_proved.specs.Behaviour.{START, nothing, acknowledged, commandTaken, commandUnknown, commandOutOfRange, commands}
 use Rattle.cases_proved.specs.Observed.{Observation, _gives_not_}
 use Rattle.cases_proved.specs.Start.{Setting, _is_, zeros, oneCell, viewed}
 use Rattle.cases_proved.specs.Glasses.{mode10, level, at}
@@ -43,6 +44,10 @@ words before = wordsOf (viewed before)
 abbrev pub noWords : List ℕ
 noWords = replicate 34 0
 
+-- the words of the same chip while it awaits commands
+abbrev pub awaiting : List Setting → List ℕ
+awaiting before = wordsOf (inPhase (viewed before) (EndlessBytes false))
+
 -- a memory, or writers, one short
 abbrev pub short : List ℕ
 short = replicate 1716 0
@@ -65,6 +70,12 @@ runNumber es ws m w c = c .run es ws m w .number
 
 abbrev pub runDone : List ℕ → List ℕ → Calls → ℕ
 runDone es ws c = c .run es ws zeros zeros .done
+
+abbrev pub runUnknown : List ℕ → List ℕ → Calls → ℕ
+runUnknown es ws c = c .run es ws zeros zeros .unknown
+
+abbrev pub runOutOfRange : List ℕ → List ℕ → Calls → ℕ
+runOutOfRange es ws c = c .run es ws zeros zeros .out-of-range
 
 abbrev pub glass : ℕ → ℕ → List ℕ → List ℕ → Calls → ℕ
 glass row column ws m c = c .glass row column ws m
@@ -106,6 +117,13 @@ callRows =
     -- ---- the answer as another number; the record not written back
     ∷ stepNumber START (words []) zeros zeros gives nothing not 0
     ∷ stepWord START (words []) COUNT gives 1 not 0
+    -- a command's answer as the plain acknowledge, and each of the three as another
+    ∷ stepNumber 0x85 (awaiting []) zeros zeros gives commandTaken not acknowledged
+    ∷ stepNumber 0x02 (awaiting []) zeros zeros gives commandUnknown not acknowledged
+    ∷ stepNumber 0xE5 (awaiting []) zeros zeros gives commandOutOfRange not acknowledged
+    ∷ stepNumber 0xE5 (awaiting []) zeros zeros gives commandOutOfRange not commandTaken
+    ∷ stepNumber 0x02 (awaiting []) zeros zeros gives commandUnknown not commandOutOfRange
+    ∷ stepNumber 0x00 (awaiting []) zeros zeros gives commandTaken not commandUnknown
     -- words that stand for no record let pass; 2 before 1, for either memory; 3 before 2
     ∷ stepNumber START noWords zeros zeros gives 2 not nothing
     ∷ stepNumber START (words (X is 101 ∷ [])) zeros zeros gives 2 not nothing
@@ -116,6 +134,17 @@ callRows =
     ∷ runDone (START ∷ 0x78 ∷ []) (words []) gives 2 not 1
     ∷ runDone (START ∷ 261 ∷ []) (words []) gives 1 not 2
     ∷ runDone (START ∷ []) noWords gives 0 not 1
+    -- what was counted: exchanged; the events done given for it; lost where the run is refused; something at a refused entry
+    ∷ runUnknown (commands (0x02 ∷ 0xE5 ∷ 0x02 ∷ [])) (words []) gives 2 not 1
+    ∷ runOutOfRange (commands (0x02 ∷ 0xE5 ∷ 0x02 ∷ [])) (words []) gives 1 not 2
+    ∷ runUnknown (commands (0x02 ∷ 0xE5 ∷ 0x02 ∷ [])) (words []) gives 2 not 6
+    ∷ runOutOfRange (commands (0x02 ∷ 0xE5 ∷ 0x02 ∷ [])) (words []) gives 1 not 6
+    ∷ runUnknown (0x02 ∷ 261 ∷ []) (awaiting []) gives 1 not 0
+    ∷ runOutOfRange (0xE5 ∷ 261 ∷ []) (awaiting []) gives 1 not 0
+    ∷ runUnknown (commands (0x02 ∷ [])) noWords gives 0 not 1
+    ∷ runOutOfRange (commands (0xE5 ∷ [])) noWords gives 0 not 1
+    ∷ runUnknown (0x02 ∷ []) (awaiting (X is 101 ∷ [])) gives 0 not 1
+    ∷ runOutOfRange (0xE5 ∷ []) (awaiting (X is 101 ∷ [])) gives 0 not 1
     -- the last answer for the refusal; a refusal at entry with no events let pass; 2 before 1, for either memory
     ∷ runNumber (START ∷ 0x78 ∷ []) (words []) zeros zeros gives 0 not acknowledged
     ∷ runNumber [] noWords zeros zeros gives 2 not 0

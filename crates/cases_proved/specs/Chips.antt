@@ -4,7 +4,7 @@ use mathlib.Core.List.{List, [], _∷_, _++_}
 use Prim.Native.Nat.{_+_, _-_, _^_}
 use Rattle.cases_proved.specs.Cited.{H, DO, PD, «V», D, MX, X, Y, SM, GR, GS0, GS2, GS3, DOF, EC}
 use Rattle.cases_proved.specs.Behaviour.{Behaviour, register, count, status, lastRs, cell, writer, leave, answer, runLeaves, runDone}
-use Rattle.cases_proved.specs.Behaviour.{runRefusal, runAnswer}
+use Rattle.cases_proved.specs.Behaviour.{runRefusal, runAnswer, runUnknown, runOutOfRange, commandTaken, commandUnknown, commandOutOfRange}
 use Rattle.cases_proved.specs.Behaviour.{START, STOP, READ, READLAST, RESET, sensor, nothing, acknowledged, notAcknowledged, byteRead, commands}
 use Rattle.cases_proved.specs.Behaviour.{displayBytes}
 use Rattle.cases_proved.specs.Observed.{Observation, _gives_not_}
@@ -105,8 +105,77 @@ commandBytes =
     -- two rows of page 4 that take the same byte
     ∷ leave (upon (H is 4 ∷ [])) (commands (0b0000_1010 ∷ [])) (register EC) gives 1 not 0
     ∷ leave (upon (H is 4 ∷ DOF is 0 ∷ [])) (commands (0b0000_1010 ∷ [])) (register DOF) gives 0 not 1
-    -- a byte of no row that is not acknowledged
-    ∷ answer (upon (H is 1 ∷ [])) (commands []) 0x85 gives acknowledged not notAcknowledged
+    ∷ []
+
+-- document 02, W5
+unfoldable pub commandAnswers : List (Observation Behaviour)
+commandAnswers =
+    -- a byte of no row that is not acknowledged; a command that gets a plain acknowledge, whichever of the three it is
+    answer (upon (H is 1 ∷ [])) (commands []) 0x85 gives commandUnknown not notAcknowledged
+    ∷ answer (upon (H is 1 ∷ [])) (commands []) 0x85 gives commandUnknown not acknowledged
+    ∷ answer (upon []) (commands []) 0x85 gives commandTaken not acknowledged
+    ∷ answer (upon []) (commands []) 0xE5 gives commandOutOfRange not acknowledged
+    -- out of range told as taken: X 101 and 127, Y 17 and 31, pages 5 and 7
+    ∷ answer (upon []) (commands []) 0xE5 gives commandOutOfRange not commandTaken
+    ∷ answer (upon []) (commands []) 0xFF gives commandOutOfRange not commandTaken
+    ∷ answer (upon []) (commands []) 0x51 gives commandOutOfRange not commandTaken
+    ∷ answer (upon []) (commands []) 0x5F gives commandOutOfRange not commandTaken
+    ∷ answer (upon []) (commands []) 0x0D gives commandOutOfRange not commandTaken
+    ∷ answer (upon []) (commands []) 0x0F gives commandOutOfRange not commandTaken
+    -- and as unknown
+    ∷ answer (upon []) (commands []) 0xE5 gives commandOutOfRange not commandUnknown
+    ∷ answer (upon []) (commands []) 0x51 gives commandOutOfRange not commandUnknown
+    ∷ answer (upon []) (commands []) 0x0D gives commandOutOfRange not commandUnknown
+    -- the last X, Y and page told as out of range
+    ∷ answer (upon []) (commands []) 0xE4 gives commandTaken not commandOutOfRange
+    ∷ answer (upon []) (commands []) 0x50 gives commandTaken not commandOutOfRange
+    ∷ answer (upon []) (commands []) 0x0C gives commandTaken not commandOutOfRange
+    -- unknown told as out of range, and as taken; X 101 seen in page 1, where E5h is of no row, and in page 2, where it is VOP 101; X 5 in page 1
+    ∷ answer (upon []) (commands []) 0x02 gives commandUnknown not commandOutOfRange
+    ∷ answer (upon []) (commands []) 0x02 gives commandUnknown not commandTaken
+    ∷ answer (upon (H is 1 ∷ [])) (commands []) 0xE5 gives commandUnknown not commandOutOfRange
+    ∷ answer (upon (H is 2 ∷ [])) (commands []) 0xE5 gives commandTaken not commandOutOfRange
+    ∷ answer (upon (H is 1 ∷ [])) (commands []) 0x85 gives commandUnknown not commandTaken
+    -- a command without effect told as unknown: NOP in two pages, page return in page 0, row block swapping, and what sets a register to what it held
+    ∷ answer (upon []) (commands []) 0x00 gives commandTaken not commandUnknown
+    ∷ answer (upon (H is 3 ∷ [])) (commands []) 0x00 gives commandTaken not commandUnknown
+    ∷ answer (upon []) (commands []) 0x01 gives commandTaken not commandUnknown
+    ∷ answer (upon (H is 4 ∷ [])) (commands []) 0b0100_0000 gives commandTaken not commandUnknown
+    ∷ answer (upon (H is 4 ∷ [])) (commands []) 0b0101_1000 gives commandTaken not commandUnknown
+    ∷ answer (upon (X is 5 ∷ [])) (commands []) 0x85 gives commandTaken not commandUnknown
+    ∷ answer (upon (H is 3 ∷ GR is 2 ∷ GS2 is 33 ∷ [])) (commands []) 0b1010_0001 gives commandTaken not commandUnknown
+    -- page return out of page 4 told as unknown, and a page command told by the page after it
+    ∷ answer (upon (H is 4 ∷ [])) (commands []) 0x01 gives commandTaken not commandUnknown
+    ∷ answer (upon []) (commands []) 0x0C gives commandTaken not commandUnknown
+    -- an address, a control byte and a display byte told as the commands that they would be
+    ∷ answer (upon []) (START ∷ []) 0x78 gives acknowledged not commandUnknown
+    ∷ answer (upon []) (START ∷ 0x78 ∷ []) 0x80 gives acknowledged not commandTaken
+    ∷ answer (upon []) (displayBytes []) 0xE5 gives acknowledged not commandOutOfRange
+    ∷ answer (upon []) (displayBytes []) 0x02 gives acknowledged not commandUnknown
+    -- after 80h, as after 00h
+    ∷ answer (upon []) (START ∷ 0x78 ∷ 0x80 ∷ []) 0xE5 gives commandOutOfRange not acknowledged
+    ∷ answer (upon []) (START ∷ 0x78 ∷ 0x80 ∷ []) 0x02 gives commandUnknown not acknowledged
+    -- ---- what a run counts: exchanged, the first of each only, none
+    ∷ runUnknown (upon []) (commands (0x02 ∷ 0xE5 ∷ 0x02 ∷ [])) gives 2 not 1
+    ∷ runOutOfRange (upon []) (commands (0x02 ∷ 0xE5 ∷ 0x02 ∷ [])) gives 1 not 2
+    ∷ runOutOfRange (upon []) (commands (0xE5 ∷ 0x02 ∷ 0x51 ∷ [])) gives 2 not 1
+    ∷ runOutOfRange (upon []) (commands (0xE5 ∷ 0x02 ∷ 0x51 ∷ [])) gives 2 not 0
+    -- both in both
+    ∷ runUnknown (upon []) (commands (0x02 ∷ 0xE5 ∷ 0x02 ∷ [])) gives 2 not 3
+    -- commands that were taken counted as unknown; display bytes, and bytes that are ignored, counted as the commands that they would be
+    ∷ runUnknown (upon []) (commands (0x02 ∷ 0x00 ∷ 0x85 ∷ [])) gives 1 not 3
+    ∷ runUnknown (upon []) (displayBytes (0x02 ∷ [])) gives 0 not 1
+    ∷ runOutOfRange (upon []) (displayBytes (0xE5 ∷ [])) gives 0 not 1
+    ∷ runUnknown (upon []) (START ∷ 0x7A ∷ 0x00 ∷ 0x02 ∷ []) gives 0 not 1
+    -- a refused event counted, by 4 and at entry; and the counts lost where the run is refused, by 3 and by 4
+    ∷ runUnknown (counting (2 ^ 64 - 5) (upon [])) (commands (0x02 ∷ 0x02 ∷ [])) gives 1 not 2
+    ∷ runOutOfRange (counting (2 ^ 64 - 5) (upon [])) (commands (0xE5 ∷ 0xE5 ∷ [])) gives 1 not 2
+    ∷ runUnknown (lent 1716 1717 (upon [])) (commands (0x02 ∷ [])) gives 0 not 1
+    ∷ runOutOfRange (upon (X is 101 ∷ [])) (commands (0xE5 ∷ [])) gives 0 not 1
+    ∷ runUnknown (upon []) (commands (0x02 ∷ []) ++ 261 ∷ []) gives 1 not 0
+    ∷ runOutOfRange (counting (2 ^ 64 - 5) (upon [])) (commands (0xE5 ∷ 0xE5 ∷ [])) gives 1 not 0
+    -- those after a refused event
+    ∷ runUnknown (upon []) (START ∷ 0x78 ∷ 0x00 ∷ 0x02 ∷ 261 ∷ 0x02 ∷ []) gives 1 not 2
     ∷ []
 
 unfoldable pub displayData : List (Observation Behaviour)
@@ -199,4 +268,4 @@ refusalsAndRuns =
 
 -- all of them
 unfoldable pub chipRows : List (Observation Behaviour)
-chipRows = busEvents ++ commandBytes ++ displayData ++ refusalsAndRuns
+chipRows = busEvents ++ commandBytes ++ commandAnswers ++ displayData ++ refusalsAndRuns

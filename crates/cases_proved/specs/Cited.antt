@@ -3,15 +3,17 @@ pub use lib.ListN.{getD, length, set, replicate, take}
 pub use Rattle.registers.specs.declared.Registers.{Registers}
 pub use Rattle.registers.specs.declared.Chip.{Chip}
 pub use Rattle.registers.specs.declared.Phase.the-variants.{EndlessBytes}
+pub use Rattle.commands.specs.declared.answer.CommandAnswer.the-variants.{Taken, Unknown, OutOfRange}
 pub use Rattle.registers.specs.Places.{H, DO, PD, «V», D, E, MX, MY, PS, X, Y, DP, SM, GR, GS0, GS1, GS2, GS3, DOF, DM, EC, OC}
 pub use Rattle.registers.specs.Record.{values, ofValues, put, blank, resetRegisters, resetChip, inPhase, withRegisters}
 pub use Rattle.registers.specs.State.{State, state, places}
 pub use Rattle.engine.specs.declared.answer.Answer.{Answer}
-pub use Rattle.engine.specs.declared.answer.Answer.the-variants.{Refused, Nothing, Acknowledged, NotAcknowledged, Read}
+pub use Rattle.engine.specs.declared.answer.Answer.the-variants.{Refused, Nothing, Acknowledged, NotAcknowledged, Command, Read}
 pub use Rattle.engine.specs.Event.{numberOf as answerNumber}
 pub use Rattle.engine.specs.Step.{After, Fit}
 pub use Rattle.engine.specs.Run.{Outcome}
 pub use Rattle.chip.specs.LastWriter.{before}
+pub use Rattle.chip.specs.Phases.{awaitsCommand}
 pub use Rattle.chip.specs.Plays.{Good, played, message, dataMessage}
 pub use Rattle.text.specs.Text.{bytes, sameBytes}
 pub use Rattle.lists.specs.declared.Line.{Line}
@@ -37,13 +39,13 @@ pub use Rattle.host.specs.Compiling.{Compiled}
 -- these are opened where a case is computed
 unfoldable pub use Rattle.registers.specs.Record.{allowed}
 unfoldable pub use Rattle.registers.specs.Table.{rowAt}
-unfoldable pub use Rattle.commands.specs.Command.{commandOf}
+unfoldable pub use Rattle.commands.specs.Command.{commandOf, answerTo}
 unfoldable pub use Rattle.display.specs.Display.{storedOf, columnOf, placeOf, nextAddress}
 unfoldable pub use Rattle.engine.specs.Event.{isAcknowledged}
 unfoldable pub use Rattle.phases.specs.Phases.{isAddressed, phaseAfterAddress, phaseAfterLastRead}
 unfoldable pub use Rattle.engine.specs.Step.{entryRefusal, eventRefusal, refusalOf, acknowledge, counted, applied, accepted, stepOf}
 unfoldable pub use Rattle.phases.specs.Changes.{controlled, readByte, pulsed, sensed}
-unfoldable pub use Rattle.engine.specs.Run.{runFrom, runOf, lastAnswer}
+unfoldable pub use Rattle.engine.specs.Run.{runFrom, runOf, tally, lastAnswer}
 unfoldable pub use Rattle.chip.specs.Plays.{Plays}
 unfoldable pub use Rattle.text.specs.Decimal.{numberOf}
 unfoldable pub use Rattle.lists.specs.Line.{lineOf}

@@ -4,8 +4,8 @@ use mathlib.Core.List.{List, [], _∷_, _++_}
 use Prim.Native.Nat.{ℕ, suc, _+_, _*_}
 use Prim.Native.String.{String}
 use lib.Dec.{leb, eqb}
-use Rattle.cases_proved.specs.Cited.{getD, length, replicate, Registers, Chip, DO, PD, «V», D, E, MX, MY, PS, X, Y, DP, GS3, DOF}
-use Rattle.cases_proved.specs.Cited.{values, inPhase, State, state, EndlessBytes, stepOf}
+use Rattle.cases_proved.specs.Cited.{getD, length, replicate, Registers, Chip, H, DO, PD, «V», D, E, MX, MY, PS, X, Y, DP, GS3, DOF}
+use Rattle.cases_proved.specs.Cited.{values, inPhase, State, state, EndlessBytes, answerNumber, stepOf}
 use Rattle.cases_proved.specs.Cited.{bytes, sameBytes, Numbers, Result, compileOf, numbersOf}
 use Rattle.cases_proved.specs.Cited.{Pixel, dark, undriven, uses, shownNumber, pixelOn, glassOf, pulsesNumber, pulsesOf}
 use Rattle.cases_proved.specs.Start.{Setting, _is_, chipWith, zeros, oneCell, viewed}
@@ -17,6 +17,8 @@ pub data Case : Type 0 where
   counter : List Setting → List Setting → Case
   -- after reset, with these registers set, this command byte leaves these
   command : List Setting → ℕ → List Setting → Case
+  -- after reset, with these registers set, this command byte gets the answer with this number
+  answered : List Setting → ℕ → ℕ → Case
   -- after reset, with these registers set, this display byte is stored so at this place
   stored : List Setting → ℕ → ℕ → ℕ → Case
   -- after reset, with these registers set and A7h in column 5 of bank 2, the rows of the glass from this one on use these grey registers in that column
@@ -82,6 +84,7 @@ isAnswered given k = eqb (given .number) k && eqb (given .line) (cond (eqb k 0) 
 unfoldable pub holds : Case → Bool
 holds (counter before after) = agrees after (stepOf 0 (prepared before true) .state .chip .registers)
 holds (command before b after) = agrees after (stepOf b (prepared before false) .state .chip .registers)
+holds (answered before b n) = eqb (answerNumber (stepOf b (prepared before false) .answer)) n
 holds (stored before b k n) = eqb (getD (stepOf b (prepared before true) .state .memory) k 0) n
 holds (greys before row gs) = useThese (viewed before) row gs
 holds (driven before rows others) = allDriven (viewed before) rows && noneDriven (viewed before) others
@@ -129,4 +132,9 @@ marked =
     ∷ pulsed 17 4 4 4 5
     ∷ pulsed 30 7 8 7 8
     ∷ pulsed 63 16 16 16 16
+    -- document 02, W5: X 101 is out of range, X 100 is taken; 85h is X 5 in page 0, and unknown in page 1
+    ∷ answered [] 0xE5 261
+    ∷ answered [] 0xE4 259
+    ∷ answered [] 0x85 259
+    ∷ answered (H is 1 ∷ []) 0x85 260
     ∷ []

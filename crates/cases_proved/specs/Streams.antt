@@ -3,7 +3,7 @@ use mathlib.Core.List.{List, [], _∷_, _++_}
 use mathlib.Core.Path.{_≡_}
 use Prim.Native.Nat.{ℕ, _+_}
 use Prim.Native.String.{String}
-use Rattle.cases_proved.specs.Cited.{length, H, DO, «V», MX, blank, State, message, dataMessage, bytes}
+use Rattle.cases_proved.specs.Cited.{length, H, DO, «V», MX, X, blank, State, message, dataMessage, bytes}
 use Rattle.cases_proved.specs.Cited.{Line, lines, readingOf, linesOf, stream, Demand3, Draws}
 use Rattle.cases_proved.specs.Start.{Setting, _is_, upon}
 
@@ -88,6 +88,13 @@ wrongOutputs =
     ∷ output [] "put\t5\t2\t167\n" (display (return ∷ x 5 ∷ y 2 ∷ []) (0xA7 ∷ 0xA7 ∷ []))
     -- the address of the chip with pins 1
     ∷ output [] "put\t5\t2\t167\n" (dataMessage 1 (return ∷ x 5 ∷ y 2 ∷ []) (0xA7 ∷ []))
+    -- MX = 1, and columns are mirrored from 101: X 101 is sent for column 0, which a chip draws right whose X is 100 already
+    ∷ output (MX is 1 ∷ X is 100 ∷ []) "put\t0\t2\t167\n" (display (return ∷ x 101 ∷ y 2 ∷ []) (0xA7 ∷ []))
+    -- what the chip does not take, sent before what it does: X 101, Y 17, page 5, a byte of no row
+    ∷ output [] "put\t5\t2\t167\n" (display (return ∷ x 101 ∷ x 5 ∷ y 2 ∷ []) (0xA7 ∷ []))
+    ∷ output [] "put\t5\t2\t167\n" (display (return ∷ x 5 ∷ y 17 ∷ y 2 ∷ []) (0xA7 ∷ []))
+    ∷ output [] "put\t5\t2\t167\n" (display (return ∷ page 5 ∷ x 5 ∷ y 2 ∷ []) (0xA7 ∷ []))
+    ∷ output [] "put\t5\t2\t167\n" (display (return ∷ 0b0000_0010 ∷ x 5 ∷ y 2 ∷ []) (0xA7 ∷ []))
     -- an event that is not listed, after the right ones
     ∷ output [] "put\t5\t2\t167\n" (display (return ∷ x 5 ∷ y 2 ∷ []) (0xA7 ∷ []) ++ 261 ∷ [])
     -- two lines in the other order
@@ -127,7 +134,8 @@ otherOutputs =
     output [] "fill\t5\t5\t2\t3\t167\n" (display (return ∷ x 5 ∷ y 3 ∷ []) (0xA7 ∷ []) ++ display (return ∷ x 5 ∷ y 2 ∷ []) (0xA7 ∷ []))
     ∷ output («V» is 1 ∷ []) "fill\t5\t6\t2\t2\t167\n"
     (display (return ∷ x 6 ∷ y 2 ∷ []) (0xA7 ∷ []) ++ display (return ∷ x 5 ∷ y 2 ∷ []) (0xA7 ∷ []))
-    -- two page returns
+    -- a NOP, and two page returns
+    ∷ output [] "put\t5\t2\t167\n" (display (return ∷ 0b0000_0000 ∷ x 5 ∷ y 2 ∷ []) (0xA7 ∷ []))
     ∷ output [] "put\t5\t2\t167\n" (display (return ∷ return ∷ x 5 ∷ y 2 ∷ []) (0xA7 ∷ []))
     -- no STOP
     ∷ output [] "put\t5\t2\t167\n" (256 ∷ 0x78 ∷ 0x80 ∷ return ∷ 0x80 ∷ x 5 ∷ 0x80 ∷ y 2 ∷ 0x40 ∷ 0xA7 ∷ [])

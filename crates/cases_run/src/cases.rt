@@ -196,7 +196,7 @@ pub const SINGLE_DATA_BYTES: [u16; 11] = [
 // A byte from the master ends a read.
 pub const BYTE_WHILE_READING: [u16; 6] = [START, 0x79, 0x33, 258, 0x44, STOP];
 
-// Bytes of no row of their page, and a page above 4: acknowledged, nothing else.
+// Bytes of no row in page 0 and in page 4, page 5 and Y 17: acknowledged, nothing else. Page 4 and page return, which are among them, are taken.
 pub const UNKNOWN_COMMANDS: [u16; 17] = [
     START,
     0x78,
@@ -214,6 +214,32 @@ pub const UNKNOWN_COMMANDS: [u16; 17] = [
     0xff,
     0x80,
     0x01,
+    STOP,
+];
+
+// X 101, a byte of no row, NOP and X 100, each after its control byte; then X 100 again, Y 17, Y 3, page 5 and page return on end; and E5h as a
+// display byte.
+pub const TAKEN_UNKNOWN_OUT_OF_RANGE: [u16; 21] = [
+    START,
+    0x78,
+    0x80,
+    0xe5,
+    0x80,
+    0x02,
+    0x80,
+    0x00,
+    0x80,
+    0xe4,
+    0x00,
+    0xe4,
+    0x51,
+    0x43,
+    0x0d,
+    0x01,
+    START,
+    0x78,
+    0x40,
+    0xe5,
     STOP,
 ];
 

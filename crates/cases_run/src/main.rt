@@ -2,7 +2,8 @@
 //
 //   case NAME
 //   answers A1 A2 ..                 one for each event, up to the first refused one
-//   done N refusal R                 of a run over all events on a fresh chip, R 0 if none
+//   done N refusal R unknown U out-of-range O
+//                                    of a run over all events on a fresh chip, R 0 if none; U and O of its commands were so answered
 //   record W0 W1 .. W34              after that run
 //   cell COLUMN BANK BYTE EVENT      for each written place, by bank, then column
 //   pulses ROW 5 P0 P1 P2 P3         for each of the glass's rows 8 to 11 that is lit in column 5
@@ -85,18 +86,38 @@ fn step_by_step(pins: u64, events: &[u16]) {
     text(b"\n");
 }
 
-fn at_once(pins: u64, events: &[u16]) {
-    let mut record = [0u64; 35];
-    let mut memory = [0u8; 1717];
-    let mut writers = [0u64; 1717];
+// All events in one run, and what it gives.
+fn run(record: &mut [u64], memory: &mut [u8], writers: &mut [u64], events: &[u16]) {
     let mut done = 0;
-    host::pcf8820_reset(&mut record, pins);
-    let refusal = host::pcf8820_run(&mut record, &mut memory, &mut writers, events, &mut done);
+    let mut unknown = 0;
+    let mut out_of_range = 0;
+    let refusal = host::pcf8820_run(
+        record,
+        memory,
+        writers,
+        events,
+        &mut done,
+        &mut unknown,
+        &mut out_of_range,
+    );
     text(b"done");
     number(done);
     text(b" refusal");
     number(refusal);
-    text(b"\nrecord");
+    text(b" unknown");
+    number(unknown);
+    text(b" out-of-range");
+    number(out_of_range);
+    text(b"\n");
+}
+
+fn at_once(pins: u64, events: &[u16]) {
+    let mut record = [0u64; 35];
+    let mut memory = [0u8; 1717];
+    let mut writers = [0u64; 1717];
+    host::pcf8820_reset(&mut record, pins);
+    run(&mut record, &mut memory, &mut writers, events);
+    text(b"record");
     words(&record);
     text(b"\n");
     cells(&memory, &writers);
@@ -150,9 +171,14 @@ fn bus() {
     play(b"byte-while-reading", 0, &cases::BYTE_WHILE_READING);
 }
 
-// Bytes of no row, the grey registers, rows that change nothing, and greys on the glass.
+// Bytes of no row, addresses that there are not, the grey registers, rows that change nothing, and greys on the glass.
 fn commands() {
     play(b"unknown-commands", 0, &cases::UNKNOWN_COMMANDS);
+    play(
+        b"taken-unknown-out-of-range",
+        0,
+        &cases::TAKEN_UNKNOWN_OUT_OF_RANGE,
+    );
     play(b"grey-levels", 0, &cases::GREY_LEVELS);
     play(b"row-block-swapping", 0, &cases::ROW_BLOCK_SWAPPING);
     play(b"pulses-17-30-63", 0, &cases::PULSES_17_30_63);

@@ -1,19 +1,24 @@
--- What each kind of event does, where it is not refused.
-use mathlib.Core.Bool.{true, false}
-use mathlib.Core.Path.{_≡_, refl, ap, _∙_}
+-- What each kind of event does, where it is not refused; and that only command bytes are answered as commands.
+use mathlib.Core.Bool.{true, false, Bool}
+use mathlib.Core.Path.{_≡_, refl, ap, _∙_, sym, subst}
 use Prim.Native.Nat.{ℕ, _+_, _<_}
+use native.Mathlib.Decide.{decLt}
+use native.Mathlib.Omega.{arith}
 use lib.ListN.{set}
 use Rattle.registers.specs.declared.Phase.{Phase}
 use Rattle.registers.specs.declared.Phase.the-variants.{Idle, AddressAwaited, Ignoring, ControlAwaited, OneByte, EndlessBytes, Reading, ReadEnded}
 use Rattle.registers.specs.Record.{inPhase, withRegisters}
 use Rattle.registers.specs.State.{State, state}
-use Rattle.registers.proofs.Below.{false-true}
-use Rattle.engine.specs.declared.event.Event.{Event}
+use Rattle.registers.proofs.Below.{false-true, true-false}
 use Rattle.phases.specs.Phases.{phaseAfterContent}
-use Rattle.engine.specs.Step.{onByte, applied, accepted, counted}
-use Rattle.engine.proofs.Events.{byte-event}
+use Rattle.engine.specs.declared.event.Event.{Event}
+use Rattle.engine.specs.Step.{onByte, applied, accepted, counted, acknowledge}
+use Rattle.engine.proofs.Events.{byte-event, other-event}
+use Rattle.engine.specs.declared.event.Event.the-variants.{Byte, Start, Stop, ReadAcknowledged, ReadNotAcknowledged, Reset, Sensor, Unlisted}
+use Rattle.engine.specs.Event.{eventOf, isByte}
 use Rattle.chip.specs.Phases.{awaitsData, awaitsCommand, ignoresBytes, phaseAfterIgnored}
-use Rattle.chip.specs.Promised.{Acknowledged, NotAcknowledged, after, nothingStored, refusalOf, stepOf, commandOf, storedOf, placeOf, nextAddress}
+use Rattle.chip.specs.Promised.{Acknowledged, NotAcknowledged, Command, after, nothingStored, refusalOf, stepOf, commandOf, answerTo, storedOf}
+use Rattle.chip.specs.Promised.{placeOf, nextAddress, Answer, CommandAnswer, Refused, Nothing, Read, After}
 use Rattle.chip.specs.Effects.{displayed}
 use Rattle.chip.proofs.Refusals.{accepted-step}
 
@@ -23,7 +28,8 @@ same-phase s p e = ap (λ (q : Phase). nothingStored NotAcknowledged (inPhase (s
 -- a byte in the phases that take a command, take display data, or take nothing
 pub command-at :
     (p : Phase) (b number : ℕ) (s : State) → awaitsCommand p ≡ true
-    → onByte p b number s ≡ nothingStored Acknowledged (withRegisters (inPhase (s .chip) (phaseAfterContent p)) (commandOf b (s .chip .registers))) s
+    → onByte p b number s
+    ≡ nothingStored (Command (answerTo (s .chip .registers .h) b)) (withRegisters (inPhase (s .chip) (phaseAfterContent p)) (commandOf b (s .chip .registers))) s
 command-at Idle b number s t = absurd (false-true t)
 command-at AddressAwaited b number s t = absurd (false-true t)
 command-at Ignoring b number s t = absurd (false-true t)
@@ -82,3 +88,70 @@ pub display-step : (s : State) (b : ℕ) → b < 256 → refusalOf b s ≡ 0 →
 unfolding counted
 display-step s b is-byte h t =
     by-phase s b is-byte h ∙ display-at (s .chip .phase) b (s .chip .count + 1) (state (counted (s .chip)) (s .memory) (s .writers)) t
+
+-- ---- only command bytes are answered as commands
+
+abbrev IsCommand : Answer → Type 0
+IsCommand (Refused k) = ⊥
+IsCommand Nothing = ⊥
+IsCommand Acknowledged = ⊥
+IsCommand NotAcknowledged = ⊥
+IsCommand (Command a) = Unit
+IsCommand (Read b) = ⊥
+
+acknowledge-none : (t : Bool) → IsCommand (acknowledge t) → ⊥
+unfolding acknowledge
+acknowledge-none true c = c
+acknowledge-none false c = c
+
+byte-command : (p : Phase) (b number : ℕ) (s : State) → IsCommand (onByte p b number s .answer) → awaitsCommand p ≡ true
+byte-command Idle b number s c = absurd c
+byte-command AddressAwaited b number s c = absurd (acknowledge-none _ c)
+byte-command Ignoring b number s c = absurd c
+byte-command ControlAwaited b number s c = absurd c
+byte-command (OneByte true) b number s c = absurd c
+byte-command (OneByte false) b number s c = refl
+byte-command (EndlessBytes true) b number s c = absurd c
+byte-command (EndlessBytes false) b number s c = refl
+byte-command Reading b number s c = absurd c
+byte-command ReadEnded b number s c = absurd c
+
+applied-command :
+    (v : Event) (number : ℕ) (s : State) → IsCommand (applied v number s .answer) → (isByte v ≡ true) × (awaitsCommand (s .chip .phase) ≡ true)
+unfolding applied
+applied-command (Byte b) number s c = (refl, byte-command (s .chip .phase) b number s c)
+applied-command Start number s c = absurd c
+applied-command Stop number s c = absurd c
+applied-command ReadAcknowledged number s c = absurd c
+applied-command ReadNotAcknowledged number s c = absurd c
+applied-command Reset number s c = absurd c
+applied-command (Sensor v) number s c = absurd c
+applied-command Unlisted number s c = absurd c
+
+-- the same answer, the same answer to a command
+pub same-command : {a b : CommandAnswer} → Command a ≡ Command b → a ≡ b
+same-command {a} {b} e = subst (λ (x : Answer). held x ≡ b) (sym e) refl
+  where
+    held : Answer → CommandAnswer
+    held (Refused k) = b
+    held Nothing = b
+    held Acknowledged = b
+    held NotAcknowledged = b
+    held (Command x) = x
+    held (Read n) = b
+
+-- an event that is answered as a command is a byte, and a command was awaited
+pub answered-command :
+    (e : ℕ) (s : State) → refusalOf e s ≡ 0 → (a : CommandAnswer) → stepOf e s .answer ≡ Command a
+    → (e < 256) × (awaitsCommand (s .chip .phase) ≡ true)
+unfolding accepted counted
+answered-command e s h a q =
+    let is : IsCommand (accepted e s .answer) =
+    subst IsCommand (sym (ap (λ (x : After). x .answer) (sym (accepted-step e s h)) ∙ q)) tt
+    in
+    let so = applied-command (eventOf e) (s .chip .count + 1) (state (counted (s .chip)) (s .memory) (s .writers)) is in
+    (below (decLt e 256) (so .0), so .1)
+  where
+    below : Dec (e < 256) → isByte (eventOf e) ≡ true → e < 256
+    below (yes l) t = l
+    below (no n) t = absurd (true-false (sym t ∙ other-event e (omega arith)))

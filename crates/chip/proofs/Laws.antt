@@ -2,11 +2,17 @@
 use mathlib.Core.Bool.{true}
 use mathlib.Core.List.{List, _++_}
 use mathlib.Core.Logic.{_↔_, inl}
-use mathlib.Core.Path.{_≡_, refl, ap, _∙_, subst}
-use Prim.Native.Nat.{ℕ, zero, suc, _+_, _<_}
+use mathlib.Core.Path.{_≡_, refl, sym, ap, _∙_, subst}
+use Prim.Native.Nat.{ℕ, zero, suc, _+_, _*_, _<_, _≤_}
+use native.Mathlib.Nat.{suc-ne-zero}
+use native.Mathlib.Omega.{arith}
 use Rattle.registers.specs.declared.Phase.the-variants.{Idle, AddressAwaited, ControlAwaited}
+use Rattle.registers.specs.Encode.{rowByte}
 use Rattle.registers.specs.Record.{inPhase, withRegisters}
 use Rattle.registers.specs.State.{State, state}
+use Rattle.registers.proofs.TableTest.{rowNo}
+use Rattle.registers.proofs.Within.{allowed-registers}
+use Rattle.commands.proofs.Answers.{answer-exactly, untaken-kept, nop-taken, return-taken, swap-taken}
 use Rattle.engine.specs.declared.event.Event.{Event}
 use Rattle.engine.specs.Run.{runOf, unlessStopped, runFrom}
 use Rattle.phases.specs.Phases.{phaseAfterContent}
@@ -14,24 +20,39 @@ use Rattle.phases.specs.Changes.{readByte}
 use Rattle.engine.specs.Step.{accepted, applied, stepOf, counted}
 use Rattle.engine.proofs.Allowed.{accepted-fit}
 use Rattle.engine.proofs.Events.{sensor-event}
-use Rattle.engine.proofs.Refusals.{entry-fit}
+use Rattle.engine.proofs.Tallies.{tally-refused}
+use Rattle.engine.proofs.Refusals.{entry-fit, accepts}
 use Rattle.chip.specs.Effects.{displayed}
 use Rattle.chip.specs.LastWriter.{PlaceAfter, LastWriter}
 use Rattle.chip.specs.Phases.{awaitsData, awaitsCommand, ignoresBytes, phaseAfterIgnored}
-use Rattle.chip.specs.Promised.{Refused, Nothing, Acknowledged, NotAcknowledged, Read, nothingStored, Fit, entryRefusal, refusalOf, isAddressed}
-use Rattle.chip.specs.Promised.{acknowledge, phaseAfterAddress, controlled, phaseAfterLastRead, pulsed, sensed, commandOf}
-use Rattle.chip.specs.Runs.{continued, StepByStep}
+use Rattle.chip.specs.Promised.{CommandAnswer, Taken, Refused, Nothing, Acknowledged, NotAcknowledged, Command, Read, After, nothingStored, Fit, entryRefusal, refusalOf, isAddressed}
+use Rattle.chip.specs.Promised.{acknowledge, phaseAfterAddress, controlled, phaseAfterLastRead, pulsed, sensed, commandOf, answerTo, CommandWhen, countUnless, tally}
+use Rattle.chip.specs.Runs.{continued, StepByStep, tallyOver}
 use Rattle.chip.specs.When.{When}
-use Rattle.chip.proofs.Events.{by-phase, in-known-phase, command-at, display-step, ignored-at}
+use Rattle.chip.proofs.Events.{by-phase, in-known-phase, command-at, display-step, ignored-at, answered-command, same-command}
+use Rattle.chip.proofs.Held.{held-does}
 use Rattle.chip.proofs.LastWriter.{from-written, idle, counts-accepted}
 use Rattle.chip.proofs.Refusals.{refusal-when, when-so, accepted-step}
 use Rattle.chip.proofs.Runs.{from-append, from-fit, from-steps, entry-stops}
+use Rattle.chip.proofs.Tallies.{from-tallies, from-tallies-append, entry-tallies, at-most-done}
 
 -- ---- refusals
 
 -- each number comes exactly when document 01's table says
 pub exactly-when : (e : ℕ) (s : State) (k : ℕ) → (refusalOf e s ≡ k) ↔ When e s k
 exactly-when e s k = (λ q. subst (λ (n : ℕ). When e s n) q (refusal-when e s), when-so e s k)
+
+-- and there is none above 4
+pub refusal-at-most : (e : ℕ) (s : State) → refusalOf e s ≤ 4
+refusal-at-most e s = go (refusalOf e s) (refusal-when e s)
+  where
+    go : (k : ℕ) → When e s k → k ≤ 4
+    go zero w = omega arith
+    go (suc zero) w = omega arith
+    go (suc (suc zero)) w = omega arith
+    go (suc (suc (suc zero))) w = omega arith
+    go (suc (suc (suc (suc zero)))) w = omega arith
+    go (suc (suc (suc (suc (suc k))))) w = absurd w
 
 -- a refused event gives its number, and changes nothing
 pub refused : (e : ℕ) (s : State) (k : ℕ) → refusalOf e s ≡ suc k → stepOf e s ≡ record { answer = Refused (suc k); state = s }
@@ -89,7 +110,8 @@ module _ (s : State) where
     pub command-law :
         awaitsCommand (s .chip .phase) ≡ true
         → stepOf b s
-        ≡ nothingStored Acknowledged (withRegisters (inPhase (counted (s .chip)) (phaseAfterContent (s .chip .phase))) (commandOf b (s .chip .registers))) s
+        ≡ nothingStored (Command (answerTo (s .chip .registers .h) b))
+        (withRegisters (inPhase (counted (s .chip)) (phaseAfterContent (s .chip .phase))) (commandOf b (s .chip .registers))) s
     unfolding counted
     command-law t =
         by-phase s b is-byte h ∙ command-at (s .chip .phase) b (s .chip .count + 1) (state (counted (s .chip)) (s .memory) (s .writers)) t
@@ -101,6 +123,57 @@ module _ (s : State) where
     unfolding counted
     ignored-law t =
         by-phase s b is-byte h ∙ ignored-at (s .chip .phase) b (s .chip .count + 1) (state (counted (s .chip)) (s .memory) (s .writers)) refl t
+
+-- taken, unknown or out of range: each exactly when an accepted byte comes as a command, and the sheet says so of it in the present page
+pub answered-exactly :
+    (e : ℕ) (s : State) → refusalOf e s ≡ 0 → (a : CommandAnswer)
+    → (stepOf e s .answer ≡ Command a) ↔ ((e < 256) × (awaitsCommand (s .chip .phase) ≡ true) × CommandWhen (s .chip .registers .h) e a)
+answered-exactly e s h a = (there, back)
+  where
+    given : e < 256 → awaitsCommand (s .chip .phase) ≡ true → stepOf e s .answer ≡ Command (answerTo (s .chip .registers .h) e)
+    given byte t = ap (λ (x : After). x .answer) (command-law s e byte h t)
+
+    there : stepOf e s .answer ≡ Command a → (e < 256) × (awaitsCommand (s .chip .phase) ≡ true) × CommandWhen (s .chip .registers .h) e a
+    there q =
+        let so = answered-command e s h a q in
+        (so .0, so .1, answer-exactly (s .chip .registers .h) e a .0 (same-command (sym (given (so .0) (so .1)) ∙ q)))
+
+    back : (e < 256) × (awaitsCommand (s .chip .phase) ≡ true) × CommandWhen (s .chip .registers .h) e a → stepOf e s .answer ≡ Command a
+    back w = given (w .0) (w .1) ∙ ap Command (answer-exactly (s .chip .registers .h) e a .1 (w .2))
+
+-- NOP and page return are taken in every page, row block swapping in page 4 whatever it says, and in its page every row's byte that says what the
+-- registers hold already, which leaves them so
+module _ (s : State) (t : awaitsCommand (s .chip .phase) ≡ true) where
+  said : (b : ℕ) → b < 256 → refusalOf b s ≡ 0 → answerTo (s .chip .registers .h) b ≡ Taken → stepOf b s .answer ≡ Command Taken
+  said b byte h e = ap (λ (x : After). x .answer) (command-law s b byte h t) ∙ ap Command e
+
+  pub nop-law : refusalOf 0b0000_0000 s ≡ 0 → stepOf 0b0000_0000 s .answer ≡ Command Taken
+  nop-law h = said 0 (omega arith) h (nop-taken (s .chip .registers .h))
+
+  pub page-return-law : refusalOf 0b0000_0001 s ≡ 0 → stepOf 0b0000_0001 s .answer ≡ Command Taken
+  page-return-law h = said 1 (omega arith) h (return-taken (s .chip .registers .h))
+
+  pub swap-law :
+      (k : ℕ) → k < 4 → s .chip .registers .h ≡ 4 → refusalOf (0b0100_0000 + 8 * k) s ≡ 0 → stepOf (0b0100_0000 + 8 * k) s .answer ≡ Command Taken
+  swap-law k l e h = said (64 + 8 * k) (omega arith) h (ap (λ (n : ℕ). answerTo n (64 + 8 * k)) e ∙ swap-taken k l)
+
+  pub held-law :
+      (i : ℕ) → i < 21 → rowNo i .page ≡ s .chip .registers .h → let b = rowByte (rowNo i) (s .chip .registers) in refusalOf b s ≡ 0
+      → (stepOf b s .answer ≡ Command Taken) × (stepOf b s .state .chip .registers ≡ s .chip .registers)
+  held-law i l e h =
+      let does = held-does (s .chip .registers) (allowed-registers (s .chip) (accepts _ s h .fit .is-allowed)) i l e in (
+        said _ (does .is-byte) h (does .is-taken),
+        ap (λ (x : After). x .state .chip .registers) (command-law s _ (does .is-byte) h t) ∙ does .leaves,
+      )
+
+-- a command that is unknown or out of range leaves every register as it was
+pub untaken-law :
+    (b : ℕ) (s : State) → b < 256 → refusalOf b s ≡ 0 → awaitsCommand (s .chip .phase) ≡ true → (stepOf b s .answer ≡ Command Taken → ⊥)
+    → stepOf b s .state .chip .registers ≡ s .chip .registers
+untaken-law b s byte h t untaken =
+    let law = command-law s b byte h t in
+    ap (λ (x : After). x .state .chip .registers) law
+    ∙ untaken-kept b (s .chip .registers) (λ q. untaken (ap (λ (x : After). x .answer) law ∙ ap Command q))
 
 -- every accepted event adds 1 to the count, and that is its number
 pub count-law : (e : ℕ) (s : State) → refusalOf e s ≡ 0 → stepOf e s .state .chip .count ≡ s .chip .count + 1
@@ -126,6 +199,33 @@ run-steps es s = go (entryRefusal s) refl
     go : (k : ℕ) → entryRefusal s ≡ k → StepByStep es s (unlessStopped k 0 s (runFrom 0 es s))
     go zero q = from-steps es s (entry-fit s q)
     go (suc k) q = entry-stops es s k q
+
+-- what a run counts of the answers to commands, it counts over the steps that it did, a refused one not among them; so no more than those
+pub run-tallies : (a : CommandAnswer) (es : List ℕ) (s : State) → tally a es s ≡ tallyOver a es (runOf es s .done) s
+unfolding runOf
+run-tallies a es s = go (entryRefusal s) refl
+  where
+    go : (x : ℕ) → entryRefusal s ≡ x → tally a es s ≡ tallyOver a es (unlessStopped x 0 s (runFrom 0 es s) .done) s
+    go zero q = from-tallies a es s
+    go (suc x) q = entry-tallies a es s x q
+
+pub run-tallies-at-most : (a : CommandAnswer) (es : List ℕ) (s : State) → tally a es s ≤ runOf es s .done
+run-tallies-at-most a es s = rw (run-tallies a es s) (at-most-done a es (runOf es s .done) s)
+
+-- a run over two lists counts what the run over the first counts, and where that was not stopped what the run over the second does from there on
+pub run-tallies-append :
+    (a : CommandAnswer) (xs ys : List ℕ) (s : State) → tally a (xs ++ ys) s ≡ tally a xs s + countUnless (runOf xs s .refusal) (tally a ys (runOf xs s .state))
+unfolding runOf
+run-tallies-append a xs ys s = go (entryRefusal s) refl
+  where
+    go :
+        (k : ℕ) → entryRefusal s ≡ k
+        → tally a (xs ++ ys) s
+        ≡ tally a xs s + countUnless (unlessStopped k 0 s (runFrom 0 xs s) .refusal) (tally a ys (unlessStopped k 0 s (runFrom 0 xs s) .state))
+    go zero q = from-tallies-append a 0 xs ys s
+    go (suc k) q =
+        let none : (es : List ℕ) → 0 ≡ tally a es s = λ es. tally-refused a es s (suc k) (sym q) (suc-ne-zero k) in
+        omega (arith, none (xs ++ ys), none xs)
 
 -- an allowed record stays allowed over a run, and the memories keep their length
 pub run-stays-fit : (es : List ℕ) (s : State) → Fit s → Fit (runOf es s .state)

@@ -1,4 +1,5 @@
 pub mod Events
+pub mod Held
 pub mod LastWriter
 pub mod Laws
 pub mod Rectangles
@@ -7,3 +8,4 @@ pub mod Refusals
 pub mod Rows
 pub mod RunOn
 pub mod Runs
+pub mod Tallies

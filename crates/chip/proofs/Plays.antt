@@ -22,10 +22,12 @@ use Rattle.phases.specs.Phases.{isAddressed, phaseAfterAddress}
 use Rattle.chip.specs.LastWriter.{before}
 use Rattle.chip.specs.Plays.{Good, Plays, played, Visible, writeAddress, singles, message, dataMessage, Does, Leads, advanced, written, Bytes}
 use Rattle.chip.specs.Plays.Leads.{no-more, by}
-use Rattle.chip.specs.Promised.{After, Fit, refusalOf, stepOf, outcome, storedOf, placeOf, nextAddress}
-use Rattle.commands.specs.Command.{commandOf}
+use Rattle.chip.specs.Phases.{awaitsCommand}
+use Rattle.chip.specs.Promised.{After, Command, Taken, Fit, refusalOf, stepOf, outcome, storedOf, placeOf, nextAddress}
+use Rattle.commands.specs.Command.{commandOf, answerTo}
 use Rattle.chip.specs.When.{ListedEvent}
 use Rattle.chip.proofs.Laws.{exactly-when, stays-fit, count-law, start-law, stop-law, address-law, control-law, command-law, display-law}
+use Rattle.registers.proofs.Below.{true-false}
 use Rattle.registers.proofs.Within.{allowed-pins}
 use Rattle.chip.proofs.Refusals.{accepted-step}
 
@@ -82,11 +84,14 @@ module _ (r : Registers) (m : List ℕ) (pins n : ℕ) (s : State) (v : Visible 
         phase = ap (λ (x : After). x .state .chip .phase) step ∙ ep;
       }
 
+  no-byte : (e : ℕ) → refusalOf e s ≡ 0 → 256 ≤ e → Good e s
+  no-byte e h above = record { not-refused = h; acknowledged = λ b. absurd (omega arith); taken = λ b. absurd (omega arith) }
+
   start-plays : Good 256 s × Stands AddressAwaited r m pins n (stepOf 256 s .state)
   unfolding counted
   start-plays =
       let h = accepts 256 (inl (omega arith)) in (
-        record { not-refused = h; acknowledged = λ b. absurd (omega arith) },
+        no-byte 256 h (omega arith),
         stands 256 h _ (start-law s h) AddressAwaited r m refl (v .registers) (v .memory) (v .pins-are),
       )
 
@@ -94,12 +99,23 @@ module _ (r : Registers) (m : List ℕ) (pins n : ℕ) (s : State) (v : Visible 
   unfolding counted
   stop-plays =
       let h = accepts 257 (inl (omega arith)) in (
-        record { not-refused = h; acknowledged = λ b. absurd (omega arith) },
+        no-byte 257 h (omega arith),
         stands 257 h _ (stop-law s h) Idle r m refl (v .registers) (v .memory) (v .pins-are),
       )
 
-  good-byte : (b : ℕ) (a : After) → refusalOf b s ≡ 0 → stepOf b s ≡ a → isAcknowledged (a .answer) ≡ true → Good b s
-  good-byte b a h step e = record { not-refused = h; acknowledged = λ _. ap (λ (x : After). isAcknowledged (x .answer)) step ∙ e }
+  good-byte :
+      (b : ℕ) (a : After) → refusalOf b s ≡ 0 → stepOf b s ≡ a → isAcknowledged (a .answer) ≡ true
+      → (awaitsCommand (s .chip .phase) ≡ true → a .answer ≡ Command Taken) → Good b s
+  good-byte b a h step e t =
+      record {
+        not-refused = h;
+        acknowledged = λ _. ap (λ (x : After). isAcknowledged (x .answer)) step ∙ e;
+        taken = λ _ q. ap (λ (x : After). x .answer) step ∙ t q;
+      }
+
+  -- a byte in a phase that awaits no command
+  good-other : (b : ℕ) (a : After) → refusalOf b s ≡ 0 → stepOf b s ≡ a → isAcknowledged (a .answer) ≡ true → awaitsCommand (s .chip .phase) ≡ false → Good b s
+  good-other b a h step e n = good-byte b a h step e (λ t. absurd (true-false (sym t ∙ n)))
 
   address-plays : s .chip .phase ≡ AddressAwaited → Good (writeAddress pins) s × Stands ControlAwaited r m pins n (stepOf (writeAddress pins) s .state)
   unfolding counted isAddressed phaseAfterAddress acknowledge isAcknowledged
@@ -110,7 +126,7 @@ module _ (r : Registers) (m : List ℕ) (pins n : ℕ) (s : State) (v : Visible 
       let law = address-law s (writeAddress pins) byte h e in
       let hit : isAddressed (s .chip .pins) (writeAddress pins) ≡ true = eq-eqb (writeAddress pins / 2) (60 + s .chip .pins) (omega (arith, v .pins-are)) in
       let even : eqb (writeAddress pins % 2) 0 ≡ true = eq-eqb (writeAddress pins % 2) 0 (omega arith) in (
-        good-byte (writeAddress pins) _ h law (simp hit),
+        good-other (writeAddress pins) _ h law (simp hit) (ap awaitsCommand e),
         stands (writeAddress pins) h _ law ControlAwaited r m (simp (hit, even)) (v .registers) (v .memory) (v .pins-are),
       )
 
@@ -119,14 +135,14 @@ module _ (r : Registers) (m : List ℕ) (pins n : ℕ) (s : State) (v : Visible 
   single-plays e =
       let h = accepts-byte 128 (omega arith) in
       let law = control-law s 128 (omega arith) h e in
-      (good-byte 128 _ h law refl, stands 128 h _ law (OneByte false) r m refl (v .registers) (v .memory) (v .pins-are))
+      (good-other 128 _ h law refl (ap awaitsCommand e), stands 128 h _ law (OneByte false) r m refl (v .registers) (v .memory) (v .pins-are))
 
   data-plays : s .chip .phase ≡ ControlAwaited → Good 64 s × Stands (EndlessBytes true) r m pins n (stepOf 64 s .state)
   unfolding counted controlled isAcknowledged
   data-plays e =
       let h = accepts-byte 64 (omega arith) in
       let law = control-law s 64 (omega arith) h e in
-      (good-byte 64 _ h law refl, stands 64 h _ law (EndlessBytes true) r m refl (v .registers) (v .memory) (v .pins-are))
+      (good-other 64 _ h law refl (ap awaitsCommand e), stands 64 h _ law (EndlessBytes true) r m refl (v .registers) (v .memory) (v .pins-are))
 
   command-plays : (b : ℕ) (r′ : Registers) → Does b r r′ → s .chip .phase ≡ OneByte false → Good b s × Stands ControlAwaited r′ m pins n (stepOf b s .state)
   unfolding counted isAcknowledged
@@ -134,7 +150,8 @@ module _ (r : Registers) (m : List ℕ) (pins n : ℕ) (s : State) (v : Visible 
       let h = accepts-byte b (does .is-byte) in
       let law = command-law s b (does .is-byte) h (simp e) in
       let left : commandOf b (s .chip .registers) ≡ r′ = ap (commandOf b) (v .registers) ∙ does .leaves in
-      (good-byte b _ h law refl, stands b h _ law ControlAwaited r′ m (simp e) left (v .memory) (v .pins-are))
+      let answered : answerTo (s .chip .registers .h) b ≡ Taken = ap (λ (q : Registers). answerTo (q .h) b) (v .registers) ∙ does .is-taken in
+      (good-byte b _ h law refl (λ _. ap Command answered), stands b h _ law ControlAwaited r′ m (simp e) left (v .memory) (v .pins-are))
 
   display-plays :
       (b : ℕ) → b < 256 → s .chip .phase ≡ EndlessBytes true
@@ -143,7 +160,7 @@ module _ (r : Registers) (m : List ℕ) (pins n : ℕ) (s : State) (v : Visible 
   display-plays b byte e =
       let h = accepts-byte b byte in
       let law = display-law s b byte h (simp e) in (
-        good-byte b _ h law refl,
+        good-other b _ h law refl (ap awaitsCommand e),
         stands b h _ law (EndlessBytes true) (nextAddress r) (set m (placeOf r) (storedOf r b)) (simp e) (ap nextAddress (v .registers))
             (simp (v .registers, v .memory)) (v .pins-are),
       )

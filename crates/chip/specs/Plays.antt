@@ -6,12 +6,14 @@ use Prim.Native.Nat.{ℕ, _+_, _*_, _^_, _<_}
 use lib.ListN.{set}
 use Rattle.registers.specs.declared.Registers.{Registers}
 use Rattle.registers.specs.State.{State}
-use Rattle.chip.specs.Promised.{isAcknowledged, Fit, refusalOf, stepOf, commandOf, storedOf, placeOf, nextAddress}
+use Rattle.chip.specs.Phases.{awaitsCommand}
+use Rattle.chip.specs.Promised.{Command, Taken, isAcknowledged, Fit, refusalOf, stepOf, commandOf, answerTo, storedOf, placeOf, nextAddress}
 
--- the event is not refused, and if it is a byte it is acknowledged
+-- the event is not refused, and if it is a byte it is acknowledged; if that is a command byte, it is taken
 pub record Good (e : ℕ) (s : State) : Type 0 where
   pub not-refused : refusalOf e s ≡ 0
   pub acknowledged : e < 256 → isAcknowledged (stepOf e s .answer) ≡ true
+  pub taken : e < 256 → awaitsCommand (s .chip .phase) ≡ true → stepOf e s .answer ≡ Command Taken
 
 -- each event is good upon the state that the one before it left, and Q holds of the last state
 unfoldable pub Plays : List ℕ → (State → Type 0) → State → Type 0
@@ -50,9 +52,10 @@ message pins bs = 256 ∷ writeAddress pins ∷ singles bs (257 ∷ [])
 abbrev pub dataMessage : ℕ → List ℕ → List ℕ → List ℕ
 dataMessage pins bs ds = 256 ∷ writeAddress pins ∷ singles bs (64 ∷ ds ++ 257 ∷ [])
 
--- command byte b takes registers r to r′
+-- command byte b is taken, and takes registers r to r′
 pub record Does (b : ℕ) (r r′ : Registers) : Type 0 where
   pub is-byte : b < 256
+  pub is-taken : answerTo (r .h) b ≡ Taken
   pub leaves : commandOf b r ≡ r′
 
 -- command bytes, one after the other, take r to r′

@@ -1,11 +1,11 @@
--- A run gone on with, and a run as its steps.
-use mathlib.Core.List.{List}
+-- A run gone on with, a run as its steps, and what it counts of them.
+use mathlib.Core.List.{List, [], _∷_}
 use mathlib.Core.Path.{_≡_}
-use Prim.Native.Nat.{ℕ, zero, suc, _<_, _≤_}
+use Prim.Native.Nat.{ℕ, zero, suc, _+_, _<_, _≤_}
 use lib.ListN.{getD, length}
 use Rattle.registers.specs.State.{State}
 use Rattle.chip.specs.LastWriter.{before}
-use Rattle.chip.specs.Promised.{Outcome, runFrom, refusalOf, entryRefusal}
+use Rattle.chip.specs.Promised.{CommandAnswer, countsAs, Outcome, runFrom, refusalOf, entryRefusal, stepOf}
 
 -- o where it was stopped, else the events that follow
 abbrev pub onward : ℕ → Outcome → Outcome → Outcome
@@ -27,3 +27,9 @@ pub record StepByStep (es : List ℕ) (s : State) (o : Outcome) : Type 0 where
   pub refused : o .done < length es → o .refusal ≡ 0 → ⊥
   -- where none is left, only the entry can have refused
   pub finished : o .done ≡ length es → o .refusal ≡ entryRefusal s
+
+-- how many commands among the first n steps got answer k
+abbrev pub tallyOver : CommandAnswer → List ℕ → ℕ → State → ℕ
+tallyOver k [] n s = 0
+tallyOver k (e ∷ es) zero s = 0
+tallyOver k (e ∷ es) (suc n) s = countsAs k (stepOf e s .answer) + tallyOver k es n (stepOf e s .state)

@@ -10,7 +10,9 @@ use Rattle.registers.specs.Record.{blank}
 use Rattle.registers.specs.State.{State}
 use Rattle.chip.specs.Plays.{Plays}
 use Rattle.chip.specs.Promised.{Fit}
+use Rattle.chip.specs.Promised.{Unknown, OutOfRange}
 use Rattle.chip.proofs.Plays.{plays-none, plays-append, plays-weaken, plays-end, plays-good, plays-run}
+use Rattle.chip.proofs.Tallies.{plays-tally}
 use Rattle.lists.specs.declared.Line.{Line}
 use Rattle.lists.specs.declared.Line.the-variants.{Fill, Set}
 use Rattle.lists.specs.Lists.{lines, readingOf}
@@ -74,6 +76,8 @@ demand-3 ls fits s fit room =
       all-good = plays-good es (Shows (after .registers) (after .cells) pins 0) s played-all;
       same-picture = λ i. record { cells = end .visible .memory i; registers = (ap blank (end .visible .registers) ∙ end .same) i };
       same-run = plays-run es (Shows (after .registers) (after .cells) pins 0) s fit played-all;
+      none-unknown = plays-tally Unknown refl es (Shows (after .registers) (after .cells) pins 0) s played-all;
+      none-out-of-range = plays-tally OutOfRange refl es (Shows (after .registers) (after .cells) pins 0) s played-all;
     }
 
 -- ---- a whole text

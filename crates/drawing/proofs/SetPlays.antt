@@ -9,13 +9,14 @@ use borrow.Author.Tests.{eq-eqb, ne-eqb, le-leb, leb-true}
 use lib.Dec.{T, eqb, leb, eqb→eq}
 use lib.ListN.{getD, length}
 use Rattle.registers.specs.declared.Registers.{Registers}
-use Rattle.registers.specs.Encode.{rowByte, withParts, isGrey, hasField, rowFor}
+use Rattle.registers.specs.Encode.{rowByte, holdsInRange, withParts, isGrey, hasField, rowFor}
 use Rattle.registers.specs.Places.{H, X, Y, GR, GS0, GS3}
 use Rattle.registers.specs.Record.{limits, put, blank, allowedRegisters}
 use Rattle.registers.specs.State.{State}
 use Rattle.registers.proofs.Below.{allBelow, below-at, true-false}
 use Rattle.registers.proofs.Parts.{grey-limit}
 use Rattle.registers.proofs.Encode.{FitParts}
+use Rattle.registers.proofs.Held.{held-fits, parts-in-range}
 use Rattle.registers.proofs.Put.{put-same, put-other, put-allowed}
 use Rattle.registers.proofs.TableTest.{rowNo}
 use Rattle.registers.proofs.Within.{both-left, both-right}
@@ -27,7 +28,7 @@ use Rattle.drawing.specs.Plain.{setTo}
 use Rattle.drawing.specs.Stream.{pageOf, leave, enter, rowBytes, setCommands}
 use Rattle.drawing.proofs.FillPlays.{Shows}
 use Rattle.drawing.proofs.RunPlays.{seen-allowed, seen-page}
-use Rattle.drawing.proofs.SetRows.{at, simple-fits, with-parts-at, partsFor, isApart, SimpleRow, simple-row, shows-target, blank-at, blank-self, put-at}
+use Rattle.drawing.proofs.SetRows.{at, with-parts-at, partsFor, isApart, SimpleRow, simple-row, shows-target, blank-at, blank-self, put-at}
 
 -- ---- one row in its page, from page 0 and back
 
@@ -39,7 +40,10 @@ record RowSet (f : ℕ) (t r : Registers) : Type 0 where
 
 module _ (f : ℕ) (row : SimpleRow f) (t r : Registers) (zero-page : r .h ≡ 0) (ok : allowedRegisters t ≡ true) where
   fit : FitParts (rowNo (rowFor f) .parts) t
-  fit = simple-fits (partsFor f) (row .registers-only) t ok
+  fit = held-fits t ok (rowFor f) (row .listed) (row .page)
+
+  range : holdsInRange (rowNo (rowFor f) .parts) t ≡ true
+  range = parts-in-range t ok (rowNo (rowFor f) .parts)
 
   abbrev page : ℕ
   page = pageOf (rowFor f)
@@ -52,7 +56,7 @@ module _ (f : ℕ) (row : SimpleRow f) (t r : Registers) (zero-page : r .h ≡ 0
       record {
         after = withParts (partsFor f) t r;
         leads = subst (λ (p : ℕ). Leads (enter p ++ byte ∷ leave p) r (withParts (partsFor f) t r)) (sym e)
-            (by (row-does (rowFor f) (row .listed) t fit r (omega arith) (e ∙ sym zero-page)) no-more);
+            (by (row-does (rowFor f) (row .listed) t fit range r (omega arith) (e ∙ sym zero-page)) no-more);
         fields = λ g n. with-parts-at (partsFor f) (row .registers-only) t r g;
       }
 
@@ -62,7 +66,7 @@ module _ (f : ℕ) (row : SimpleRow f) (t r : Registers) (zero-page : r .h ≡ 0
         after = put H 0 inside;
         leads = subst (λ (bs : List ℕ). Leads bs r (put H 0 inside)) (sym shape)
             (by (page-does page r zero-page (row .page))
-            (by (row-does (rowFor f) (row .listed) t fit (put H page r) (row .page) refl) (by (return-does inside same-page) no-more)));
+            (by (row-does (rowFor f) (row .listed) t fit range (put H page r) (row .page) refl) (by (return-does inside same-page) no-more)));
         fields = λ g n.
             put-other H 0 inside g n ∙ with-parts-at (partsFor f) (row .registers-only) t (put H page r) g
             ∙ ap (λ (x : ℕ). cond (hasField g (partsFor f)) (at t g) x) (put-other H page r g n);
@@ -198,10 +202,10 @@ module _ (k n : ℕ) (lk : k < 4) (ln : n ≤ 63) (r : Registers) (page : r .h �
       let levelled = put (GS0 + k) (at goal (GS0 + k)) after-select in
       by (return-does r page)
       (by (page-does 3 (put H 0 r) refl (omega arith))
-      (by (row-does 16 (omega arith) goal fit-select (put H 3 (put H 0 r)) (omega arith) refl)
+      (by (row-does 16 (omega arith) goal fit-select refl (put H 3 (put H 0 r)) (omega arith) refl)
       (by
       (subst (λ (f : ℕ). Does (rowByte (rowNo 17) goal) after-select (put f (at goal f) after-select)) chosen
-      (row-does 17 (omega arith) goal fit-level after-select (omega arith) refl))
+      (row-does 17 (omega arith) goal fit-level refl after-select (omega arith) refl))
       (by (return-does levelled (omega (arith, put-other (GS0 + k) (at goal (GS0 + k)) after-select H (λ e. omega arith)))) no-more))))
 
   grey-each :

@@ -2,8 +2,7 @@
 use mathlib.Core.Bool.{Bool, true, false, cond, not, _&&_, _||_}
 use mathlib.Core.List.{List, [], _∷_}
 use mathlib.Core.Path.{_≡_, refl, sym, ap, _∙_}
-use Prim.Native.Nat.{ℕ, _^_, _≤_, _<_}
-use native.Mathlib.Nat.{lt-of-le-of-lt}
+use Prim.Native.Nat.{ℕ, _≤_, _<_}
 use native.Mathlib.Decide.{ℕ-discrete}
 use borrow.Author.Tests.{eq-eqb, ne-eqb}
 use lib.Dec.{T, eqb, leb, ltb, leb→le, ltb→lt}
@@ -12,13 +11,11 @@ use lib.Seq.{ext-getD}
 use Rattle.registers.specs.declared.Registers.{Registers}
 use Rattle.registers.specs.Encode.{held, withParts, isGrey, hasField, setsField, rowFor}
 use Rattle.registers.specs.Places.{H, X, Y}
-use Rattle.registers.specs.Record.{values, ofValues, limits, put, blank, allowedRegisters}
+use Rattle.registers.specs.Record.{values, ofValues, put, blank}
 use Rattle.registers.specs.Table.{Target, Part, rows, noRow, putTo}
 use Rattle.registers.specs.Table.Target.{register, bounded, selected, unheld}
 use Rattle.registers.proofs.Below.{allBelow, below-at, and-left, and-right, true-false}
-use Rattle.registers.proofs.Encode.{FitParts}
 use Rattle.registers.proofs.Put.{put-same, put-other}
-use Rattle.registers.proofs.Within.{register-bound}
 
 -- ---- rows whose parts are registers
 
@@ -30,16 +27,16 @@ at r g = getD (values r) g 0
 pub same-registers : (r q : Registers) → ((g : ℕ) → g < 29 → at r g ≡ at q g) → r ≡ q
 same-registers r q h = ap ofValues (ext-getD 0 (values r) (values q) refl h)
 
--- every part is a register, and takes every value within its limit
-abbrev pub simple : Target → ℕ → Bool
-simple (register f) w = ltb (getD limits f 0) (2 ^ w) && ltb f 29
-simple (bounded f) w = false
-simple selected w = false
-simple unheld w = false
+-- every part is a register
+abbrev pub simple : Target → Bool
+simple (register f) = ltb f 29
+simple (bounded f) = false
+simple selected = false
+simple unheld = false
 
 abbrev pub allSimple : List Part → Bool
 allSimple [] = true
-allSimple (p ∷ ps) = simple (p .target) (p .width) && allSimple ps
+allSimple (p ∷ ps) = simple (p .target) && allSimple ps
 
 either-field : (t u : Bool) (x y : ℕ) → cond u x (cond t x y) ≡ cond (t || u) x y
 either-field true true x y = refl
@@ -59,34 +56,19 @@ put-at f g t r l = go (ℕ-discrete g f)
 pub with-parts-at : (ps : List Part) → T (allSimple ps) → (t r : Registers) (g : ℕ) → at (withParts ps t r) g ≡ cond (hasField g ps) (at t g) (at r g)
 with-parts-at [] s t r g = refl
 with-parts-at (p ∷ ps) s t r g =
-    target-at (p .target) (and-left (simple (p .target) (p .width)) (allSimple ps) s)
-    (λ r′. with-parts-at ps (and-right (simple (p .target) (p .width)) (allSimple ps) s) t r′ g)
+    target-at (p .target) (and-left (simple (p .target)) (allSimple ps) s)
+    (λ r′. with-parts-at ps (and-right (simple (p .target)) (allSimple ps) s) t r′ g)
   where
     target-at :
-        (x : Target) → T (simple x (p .width)) → ((r′ : Registers) → at (withParts ps t r′) g ≡ cond (hasField g ps) (at t g) (at r′ g))
+        (x : Target) → T (simple x) → ((r′ : Registers) → at (withParts ps t r′) g ≡ cond (hasField g ps) (at t g) (at r′ g))
         → at (withParts ps t (putTo x (held x t) r)) g ≡ cond (setsField g x || hasField g ps) (at t g) (at r g)
     target-at (register f) b rest =
         rest (put f (at t f) r)
-        ∙ ap (λ (n : ℕ). cond (hasField g ps) (at t g) n) (put-at f g t r (ltb→lt f 29 (and-right (ltb (getD limits f 0) (2 ^ (p .width))) (ltb f 29) b)))
+        ∙ ap (λ (n : ℕ). cond (hasField g ps) (at t g) n) (put-at f g t r (ltb→lt f 29 b))
         ∙ either-field (eqb g f) (hasField g ps) (at t g) (at r g)
     target-at (bounded f) b rest = absurd b
     target-at selected b rest = absurd b
     target-at unheld b rest = absurd b
-
-pub simple-fits : (ps : List Part) → T (allSimple ps) → (t : Registers) → allowedRegisters t ≡ true → FitParts ps t
-simple-fits [] s t h = tt
-simple-fits (p ∷ ps) s t h = (
-  go (p .target) (and-left (simple (p .target) (p .width)) (allSimple ps) s),
-  simple-fits ps (and-right (simple (p .target) (p .width)) (allSimple ps) s) t h,
-)
-  where
-    go : (x : Target) → T (simple x (p .width)) → held x t < 2 ^ (p .width)
-    go (register f) b =
-        lt-of-le-of-lt (register-bound t h f)
-        (ltb→lt (getD limits f 0) (2 ^ (p .width)) (and-left (ltb (getD limits f 0) (2 ^ (p .width))) (ltb f 29) b))
-    go (bounded f) b = absurd b
-    go selected b = absurd b
-    go unheld b = absurd b
 
 -- ---- which registers a set can name
 

@@ -2,8 +2,9 @@
 use mathlib.Core.Path.{_≡_, refl, sym, ap, ap₂, _∙_, subst}
 use mathlib.Core.Bool.{Bool, true, false}
 use mathlib.Core.List.{List, [], _∷_}
-use Prim.Native.Nat.{ℕ, zero, suc, _+_, _<_}
+use Prim.Native.Nat.{ℕ, zero, suc, _+_, _<_, _≤_, zero-le}
 use native.Mathlib.Numerals.{add-one}
+use native.Mathlib.Omega.{arith}
 use lib.ListN.{length, getD, drop, set}
 use lib.Seq.{drop-cons, drop-length}
 use Rattle.registers.specs.declared.Registers.{Registers}
@@ -13,17 +14,19 @@ use Rattle.registers.specs.declared.Phase.the-variants.{Idle, AddressAwaited, I
 use Rattle.registers.specs.Record.{phaseRs, inPhase, withRegisters}
 use Rattle.registers.specs.Refusals.{_then_}
 use Rattle.registers.specs.State.{State, state}
-use Rattle.commands.specs.Command.{commandOf}
+use Rattle.commands.specs.declared.answer.CommandAnswer.{CommandAnswer}
+use Rattle.commands.specs.Command.{commandOf, answerTo}
 use Rattle.display.specs.Display.{storedOf, placeOf, nextAddress}
 use Rattle.phases.specs.Phases.{awaitsContent, phaseAfterContent}
 use Rattle.engine.specs.declared.answer.Answer.{Answer}
-use Rattle.engine.specs.declared.answer.Answer.the-variants.{Refused, Nothing, Acknowledged}
+use Rattle.engine.specs.declared.answer.Answer.the-variants.{Refused, Nothing, Acknowledged, Command}
 use Rattle.engine.specs.declared.event.Event.{Event}
-use Rattle.engine.specs.Event.{eventOf, isByte}
-use Rattle.engine.specs.Run.{Outcome, outcome, runFrom, runOf, unlessStopped, answerUnless, answerFrom, lastAnswer}
+use Rattle.engine.specs.Event.{eventOf, isByte, countsAs}
+use Rattle.engine.specs.Run.{Outcome, outcome, runFrom, runOf, unlessStopped, countUnless, tally, answerUnless, answerFrom, lastAnswer}
 use Rattle.engine.specs.Step.{After, after, nothingStored, contentOf, onByte, applied, accepted, counted}
 use Rattle.engine.specs.Step.{entryRefusal, eventRefusal, refusalOf, unlessRefused, stepOf}
 use Rattle.engine.proofs.Events.{byte-event}
+use Rattle.engine.proofs.Tallies.{counted-once}
 
 -- ---- a byte
 
@@ -37,10 +40,10 @@ module _ (rs : Bool) (p : Phase) (b number : ℕ) (s : State) where
   display-content moved c′ next m w t e n em ew ec = simp (t, ec, e, n, em, ew)
 
   pub command-content :
-      (moved c′ : Chip) (next : Registers) → rs ≡ false → moved ≡ inPhase (s .chip) p → next ≡ commandOf b (s .chip .registers)
-      → c′ ≡ withRegisters moved next
-      → after Acknowledged c′ (s .memory) (s .writers) ≡ contentOf rs p b number s
-  command-content moved c′ next t e n ec = simp (t, ec, e, n)
+      (moved c′ : Chip) (a : CommandAnswer) (next : Registers) → rs ≡ false → moved ≡ inPhase (s .chip) p
+      → next ≡ commandOf b (s .chip .registers) → a ≡ answerTo (s .chip .registers .h) b → c′ ≡ withRegisters moved next
+      → after (Command a) c′ (s .memory) (s .writers) ≡ contentOf rs p b number s
+  command-content moved c′ a next t e n ea ec = simp (t, ec, e, n, ea)
 
 -- the phase is known: what is right in that phase is right
 pub in-known-phase : (known phase : Phase) (b number : ℕ) (s : State) (a : After) → phase ≡ known → a ≡ onByte known b number s → a ≡ onByte phase b number s
@@ -100,6 +103,11 @@ module _ (e : ℕ) (s : State) (a : After) where
 drop-next : (es : List ℕ) (n : ℕ) → n < length es → drop n es ≡ getD es n 0 ∷ drop (n + 1) es
 drop-next es n h = rw (add-one, drop-cons es n 0)
 
+-- n events are done, which left s, and k of them were answered by b: no more than there were, and with those that are left that is the total
+pub record Tallied (b : CommandAnswer) (total : ℕ) (es : List ℕ) (n : ℕ) (s : State) (k : ℕ) : Type 0 where
+  pub at-most : k ≤ n
+  pub in-all : k + tally b (drop n es) s ≡ total
+
 -- the event at place n, the state before it, and what it does
 module _ (es : List ℕ) (n : ℕ) (h : n < length es) (s : State) where
   here :
@@ -131,6 +139,26 @@ module _ (es : List ℕ) (n : ℕ) (h : n < length es) (s : State) where
       → answerFrom (drop n es) s a ≡ answerFrom (drop (n + 1) es) (b .state) (b .answer)
   answer-goes-on x a b e z eb = answer-here a ∙ rw (sym e ∙ z, eb)
 
+  module _ (b : CommandAnswer) (total k : ℕ) (so-far : Tallied b total es n s k) where
+    tally-here :
+        tally b (drop n es) s
+        ≡ countUnless (refusalOf (getD es n 0) s) (countsAs b (accepted (getD es n 0) s .answer) + tally b (drop (n + 1) es) (accepted (getD es n 0) s .state))
+    unfolding tally
+    tally-here = ap (λ (l : List ℕ). tally b l s) (drop-next es n h)
+
+    pub tally-stops : (x : ℕ) → x ≡ refusalOf (getD es n 0) s → (x ≡ 0 → ⊥) → k ≡ total
+    tally-stops zero e z = absurd (z refl)
+    tally-stops (suc y) e z =
+        let rest : tally b (drop n es) s ≡ 0 = tally-here ∙ rw (← e) in
+        omega (arith, so-far .in-all, rest)
+
+    pub tally-goes-on :
+        (x : ℕ) (a : After) (u : ℕ) → x ≡ refusalOf (getD es n 0) s → x ≡ 0 → a ≡ accepted (getD es n 0) s
+        → u ≡ countsAs b (a .answer) → Tallied b total es (n + 1) (a .state) (k + u)
+    tally-goes-on x a u e z ea eu =
+        let rest : tally b (drop n es) s ≡ u + tally b (drop (n + 1) es) (a .state) = tally-here ∙ rw (sym e ∙ z, eu, ea) in
+        record { at-most = omega (arith, so-far .at-most, counted-once b u (a .answer) eu); in-all = omega (arith, so-far .in-all, rest) }
+
 pub run-ends : (es : List ℕ) (n : ℕ) (s : State) → n ≡ length es → runFrom n (drop n es) s ≡ outcome n 0 s
 unfolding runFrom
 run-ends es n s e = rw (e, drop-length)
@@ -143,6 +171,16 @@ run-refused es s (suc k) e n = rw (← e)
 pub run-entered : (es : List ℕ) (s : State) (x : ℕ) (o : Outcome) → x ≡ entryRefusal s → x ≡ 0 → o ≡ runFrom 0 es s → o ≡ runOf es s
 unfolding runOf
 run-entered es s x o e z h = rw (sym e ∙ z) h
+
+module _ (b : CommandAnswer) where
+  pub tally-begins : (es : List ℕ) (s : State) → Tallied b (tally b es s) es 0 s 0
+  tally-begins es s = record { at-most = zero-le; in-all = omega arith }
+
+  pub tally-ends : (total k : ℕ) (es : List ℕ) (n : ℕ) (s : State) → Tallied b total es n s k → n ≡ length es → k ≡ total
+  unfolding tally
+  tally-ends total k es n s so-far e =
+      let rest : tally b (drop n es) s ≡ 0 = rw (e, drop-length) in
+      omega (arith, so-far .in-all, rest)
 
 pub answer-ends : (es : List ℕ) (n : ℕ) (s : State) (a : Answer) → n ≡ length es → answerFrom (drop n es) s a ≡ a
 answer-ends es n s a e = rw (e, drop-length)

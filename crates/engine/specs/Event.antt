@@ -5,7 +5,9 @@ use lib.Dec.{ltb, eqb}
 use Rattle.engine.specs.declared.event.Event.{Event}
 use Rattle.engine.specs.declared.event.Event.the-variants.{Byte, Start, Stop, ReadAcknowledged, ReadNotAcknowledged, Reset, Sensor, Unlisted}
 use Rattle.engine.specs.declared.answer.Answer.{Answer}
-use Rattle.engine.specs.declared.answer.Answer.the-variants.{Refused, Nothing, Acknowledged, NotAcknowledged, Read}
+use Rattle.engine.specs.declared.answer.Answer.the-variants.{Refused, Nothing, Acknowledged, NotAcknowledged, Command, Read}
+use Rattle.commands.specs.declared.answer.CommandAnswer.{CommandAnswer}
+use Rattle.commands.specs.Command.{commandNumber, counts}
 
 abbrev pub eventOf : ℕ → Event
 eventOf n =
@@ -35,12 +37,23 @@ numberOf (Refused n) = n
 numberOf Nothing = 256
 numberOf Acknowledged = 257
 numberOf NotAcknowledged = 258
+numberOf (Command a) = commandNumber a
 numberOf (Read b) = 512 + b
 
--- the answer to a byte that the chip took
+-- the answers by which the chip acknowledges a byte
 unfoldable pub isAcknowledged : Answer → Bool
 isAcknowledged (Refused n) = false
 isAcknowledged Nothing = false
 isAcknowledged Acknowledged = true
 isAcknowledged NotAcknowledged = false
+isAcknowledged (Command a) = true
 isAcknowledged (Read b) = false
+
+-- 1 where it is this answer to a command, 0 where it is another answer
+abbrev pub countsAs : CommandAnswer → Answer → ℕ
+countsAs k (Refused n) = 0
+countsAs k Nothing = 0
+countsAs k Acknowledged = 0
+countsAs k NotAcknowledged = 0
+countsAs k (Command a) = counts k a
+countsAs k (Read b) = 0

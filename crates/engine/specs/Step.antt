@@ -11,14 +11,14 @@ use Rattle.registers.specs.declared.Phase.the-variants.{Idle, AddressAwaited, I
 use Rattle.registers.specs.Record.{allowed, inPhase, withRegisters, withCount}
 use Rattle.registers.specs.Refusals.{refuse, _then_, lengthsRefusal, recordRefusal, isListedEvent}
 use Rattle.registers.specs.State.{State, state, places}
-use Rattle.commands.specs.Command.{commandOf}
+use Rattle.commands.specs.Command.{commandOf, answerTo}
 use Rattle.display.specs.Display.{storedOf, placeOf, nextAddress}
 use Rattle.phases.specs.Changes.{controlled, readByte, pulsed, sensed}
 use Rattle.phases.specs.Phases.{isAddressed, phaseAfterAddress, phaseAfterLastRead}
 use Rattle.engine.specs.declared.event.Event.{Event}
 use Rattle.engine.specs.declared.event.Event.the-variants.{Byte, Start, Stop, ReadAcknowledged, ReadNotAcknowledged, Reset, Sensor, Unlisted}
 use Rattle.engine.specs.declared.answer.Answer.{Answer}
-use Rattle.engine.specs.declared.answer.Answer.the-variants.{Refused, Nothing, Acknowledged, NotAcknowledged, Read}
+use Rattle.engine.specs.declared.answer.Answer.the-variants.{Refused, Nothing, Acknowledged, NotAcknowledged, Command, Read}
 use Rattle.engine.specs.Event.{eventOf}
 
 -- ---- refusals, in their order; 0 is none
@@ -64,7 +64,8 @@ acknowledge t = cond t Acknowledged NotAcknowledged
 
 -- a byte with RS 0 is a command, one with RS 1 display data, stored with the event's number; then the phase is p
 abbrev pub contentOf : Bool → Phase → ℕ → ℕ → State → After
-contentOf false p b number s = nothingStored Acknowledged (withRegisters (inPhase (s .chip) p) (commandOf b (s .chip .registers))) s
+contentOf false p b number s =
+    nothingStored (Command (answerTo (s .chip .registers .h) b)) (withRegisters (inPhase (s .chip) p) (commandOf b (s .chip .registers))) s
 contentOf true p b number s =
     after Acknowledged (withRegisters (inPhase (s .chip) p) (nextAddress (s .chip .registers)))
     (set (s .memory) (placeOf (s .chip .registers)) (storedOf (s .chip .registers) b))

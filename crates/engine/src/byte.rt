@@ -88,10 +88,11 @@ fn content(
             chip: moved.with_registers(next),
         };
     }
-    let next = commands::command(registers, byte);
+    let commanded = commands::command(registers, byte);
+    let answer = commanded.answer;
     Stepped {
-        answer: Answer::Acknowledged,
-        chip: moved.with_registers(next),
+        answer: Answer::Command(answer),
+        chip: moved.with_registers(commanded.registers),
     }
 }
 

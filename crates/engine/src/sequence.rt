@@ -1,42 +1,45 @@
 // Events in order, for a run and for a single step. It alone calls `accept`, so that the chip's record is not copied at each event.
 ghost use mathlib.Core.Path.{_≡_};
 ghost use Rattle.registers.specs.State.{state};
-ghost use Rattle.engine.specs.Run.{outcome, runOf, lastAnswer};
+ghost use Rattle.commands.specs.declared.answer.CommandAnswer.the-variants.{Unknown, OutOfRange};
+ghost use Rattle.engine.specs.declared.answer.Answer.the-variants.{Nothing};
+ghost use Rattle.engine.specs.Run.{outcome, runFrom, runOf, tally, answerFrom, lastAnswer};
 use crate::answer::Answer;
+use commands::answer::CommandAnswer;
 use registers::Chip;
 
-// How many events were done, the refusal that stopped them or 0, the answer to the last event that was tried, and the chip after it.
+// How many events were done, how many of them were unknown commands and commands out of range, the refusal that stopped them or 0, the answer to the
+// last event that was tried, and the chip after it.
 pub struct Performed {
     pub done: usize,
+    pub unknown: usize,
+    pub out_of_range: usize,
     pub refusal: u8,
     pub answer: Answer,
     pub chip: Chip,
 }
 
-// Events in order up to the first refused one. 1 and 2 are tested at entry, even with no events.
-pub fn perform(chip: Chip, memory: &mut [u8], writers: &mut [u64], events: &[u16]) -> Performed
+// Events in order up to the first refused one, with no test at entry.
+fn go_through(chip: Chip, memory: &mut [u8], writers: &mut [u64], events: &[u16]) -> Performed
     ensures { λ r. ⌜ outcome (r .done) (r .refusal) (state (r .chip) (now (memory .exit)) (now (writers .exit)))
-        ≡ runOf (now (events .entry)) (state chip (now (memory .entry)) (now (writers .entry))) ⌝ }
-    ensures { λ r. ⌜ r .answer ≡ lastAnswer (now (events .entry)) (state chip (now (memory .entry)) (now (writers .entry))) ⌝ }
+        ≡ runFrom 0 (now (events .entry)) (state chip (now (memory .entry)) (now (writers .entry))) ⌝ }
+    ensures { λ r. ⌜ r .unknown ≡ tally Unknown (now (events .entry)) (state chip (now (memory .entry)) (now (writers .entry))) ⌝ }
+    ensures { λ r. ⌜ r .«out_of_range» ≡ tally OutOfRange (now (events .entry)) (state chip (now (memory .entry)) (now (writers .entry))) ⌝ }
+    ensures { λ r. ⌜ r .answer ≡ answerFrom (now (events .entry)) (state chip (now (memory .entry)) (now (writers .entry))) Nothing ⌝ }
 {
-    let entry = crate::refusal::at_entry(chip, memory.len(), writers.len());
-    if entry != 0 {
-        return Performed {
-            done: 0,
-            refusal: entry,
-            answer: Answer::Refused(entry),
-            chip,
-        };
-    }
     let mut now_chip = chip;
     let mut answer = Answer::Nothing;
     let mut done = 0;
+    let mut unknown = 0;
+    let mut out_of_range = 0;
     while done < events.len() {
         let event = events[done];
         let refused = crate::refusal::of_step(event, now_chip, memory.len(), writers.len());
         if refused != 0 {
             return Performed {
                 done,
+                unknown,
+                out_of_range,
                 refusal: refused,
                 answer: Answer::Refused(refused),
                 chip: now_chip,
@@ -46,11 +49,37 @@ pub fn perform(chip: Chip, memory: &mut [u8], writers: &mut [u64], events: &[u16
         now_chip = stepped.chip;
         answer = stepped.answer;
         done += 1;
+        unknown += answer.counts_as(CommandAnswer::Unknown);
+        out_of_range += answer.counts_as(CommandAnswer::OutOfRange);
     }
     Performed {
         done,
+        unknown,
+        out_of_range,
         refusal: 0,
         answer,
         chip: now_chip,
     }
+}
+
+// The same, with 1 and 2 tested at entry, even with no events.
+pub fn perform(chip: Chip, memory: &mut [u8], writers: &mut [u64], events: &[u16]) -> Performed
+    ensures { λ r. ⌜ outcome (r .done) (r .refusal) (state (r .chip) (now (memory .exit)) (now (writers .exit)))
+        ≡ runOf (now (events .entry)) (state chip (now (memory .entry)) (now (writers .entry))) ⌝ }
+    ensures { λ r. ⌜ r .unknown ≡ tally Unknown (now (events .entry)) (state chip (now (memory .entry)) (now (writers .entry))) ⌝ }
+    ensures { λ r. ⌜ r .«out_of_range» ≡ tally OutOfRange (now (events .entry)) (state chip (now (memory .entry)) (now (writers .entry))) ⌝ }
+    ensures { λ r. ⌜ r .answer ≡ lastAnswer (now (events .entry)) (state chip (now (memory .entry)) (now (writers .entry))) ⌝ }
+{
+    let entry = crate::refusal::at_entry(chip, memory.len(), writers.len());
+    if entry != 0 {
+        return Performed {
+            done: 0,
+            unknown: 0,
+            out_of_range: 0,
+            refusal: entry,
+            answer: Answer::Refused(entry),
+            chip,
+        };
+    }
+    go_through(chip, memory, writers, events)
 }

@@ -11,7 +11,8 @@ use Rattle.registers.specs.State.{state, places}
 use Rattle.engine.specs.declared.answer.Answer.{Answer}
 use Rattle.engine.specs.Event.{numberOf}
 use Rattle.engine.specs.Step.{after, stepOf}
-use Rattle.engine.specs.Run.{outcome, runOf}
+use Rattle.chip.specs.Promised.{Unknown, OutOfRange}
+use Rattle.engine.specs.Run.{outcome, runOf, tally}
 use Rattle.glass.specs.declared.answer.Shown.{Shown}
 use Rattle.glass.specs.declared.answer.Cell.{Cell}
 use Rattle.glass.specs.Answer.{shownNumber, cellNumber}
@@ -54,7 +55,7 @@ module _ (ws : List ℕ) (x : Read) (ex : x ≡ readOf ws) (no : x ≡ NoRecord)
   unfolding stepCall
   step-no-record m w e n en = rw (none, en)
 
-  pub run-no-record : (m w es : List ℕ) (n : ℕ) → n ≡ noRecord m w → ran n 0 ws m w ≡ runCall es ws m w
+  pub run-no-record : (m w es : List ℕ) (n : ℕ) → n ≡ noRecord m w → ran n 0 0 0 ws m w ≡ runCall es ws m w
   unfolding runCall
   run-no-record m w es n en = rw (none, en)
 
@@ -93,10 +94,11 @@ module _ (ws : List ℕ) (x : Read) (c : Chip) (ex : x ≡ readOf ws) (is : x �
   step-done m w e n c′ a l m′ w′ ea el en = rw (stands, ← chip, ← ea, el ∙ stored-over ws c′ stands, en)
 
   pub run-done :
-      (m w es : List ℕ) (n d : ℕ) (c′ : Chip) (l m′ w′ : List ℕ)
-      → outcome d n (state c′ m′ w′) ≡ runOf es (state c m w) → l ≡ stored c′ ws → ran n d l m′ w′ ≡ runCall es ws m w
+      (m w es : List ℕ) (n d u o : ℕ) (c′ : Chip) (l m′ w′ : List ℕ)
+      → outcome d n (state c′ m′ w′) ≡ runOf es (state c m w) → u ≡ tally Unknown es (state c m w)
+      → o ≡ tally OutOfRange es (state c m w) → l ≡ stored c′ ws → ran n d u o l m′ w′ ≡ runCall es ws m w
   unfolding runCall
-  run-done m w es n d c′ l m′ w′ eo el = rw (stands, ← chip, ← eo, el ∙ stored-over ws c′ stands)
+  run-done m w es n d u o c′ l m′ w′ er eu eo el = rw (stands, ← chip, ← er, ← eu, ← eo, el ∙ stored-over ws c′ stands)
 
   pub place-done : (row column n : ℕ) (a : Cell) → a ≡ cellOf c row column → n ≡ cellNumber a → n ≡ placeCall row column ws
   unfolding placeCall

@@ -1,5 +1,5 @@
 -- The calls of the host are refused exactly when the documents say, and a refused call changes nothing; what the glass gives for a level, and its pulses;
--- demand 3 and the last writer by calls alone. (record_words: words and record.)
+-- how commands are answered and counted, demand 3 and the last writer by calls alone. (record_words: words and record.)
 use mathlib.Core.Path.{_≡_, refl, sym, ap, _∙_, subst}
 use mathlib.Core.Bool.{Bool, true, false, cond, not, _||_}
 use mathlib.Core.List.{List}
@@ -10,7 +10,8 @@ use native.Mathlib.Nat.{suc-ne-zero}
 use lib.Dec.{eqb}
 use lib.ListN.{length, getD, take}
 use Rattle.registers.specs.Refusals.{refuse, _then_}
-use Rattle.registers.specs.State.{state, places}
+use Rattle.registers.specs.Places.{H}
+use Rattle.registers.specs.State.{State, state, places}
 use Rattle.registers.proofs.Below.{true-false}
 use Rattle.registers.proofs.Refusals.{then-zero}
 use Rattle.lists.specs.Lists.{faulty, readingOf}
@@ -20,9 +21,12 @@ use Rattle.compiler.specs.declared.answer.Compiled.the-variants.{Done, Refused,
 use Rattle.compiler.specs.Compile.{compileOf, numbersOf}
 use Rattle.compiler.specs.When.{NotRead}
 use Rattle.compiler.proofs.Laws.{two-exactly, exactly-when, demand-3-promised}
-use Rattle.engine.specs.Step as inside
 use Rattle.engine.specs.Step.{Fit, eventRefusal, refusalOf, accepted, stepOf}
-use Rattle.engine.specs.Run.{runFrom, runOf}
+use Rattle.engine.specs.Run.{runFrom, runOf, tally}
+use Rattle.engine.proofs.Tallies.{tally-refused}
+use Rattle.chip.specs.Promised.{CommandAnswer, Unknown, OutOfRange, CommandWhen, commandNumber}
+use Rattle.engine.specs.declared.answer.Answer.the-variants.{Command}
+use Rattle.chip.proofs.Laws.{answered-exactly}
 use Rattle.record_words.specs.Words.{COUNT, standsFor, chipOf}
 use Rattle.glass.specs.declared.answer.Shown.{Shown}
 use Rattle.glass.specs.declared.answer.Shown.the-variants as shown
@@ -39,74 +43,63 @@ use Rattle.pulses.specs.When.{IsLit}
 use Rattle.pulses.specs.Row as pulses
 use Rattle.pulses.specs.Row.{rowBytes, bufferRefusal, pulseRow, rowOf}
 use Rattle.pulses.proofs.Laws.{number-dark, number-undriven, number-lit, number-pulse}
-use Rattle.host.specs.Calls.{noRecordFor, noRecord, stepped, stepCall, stepRefusal, afterStep, entryRefusal, ran, runCall, afterRun}
+use Rattle.host.specs.Calls.{noRecordFor, noRecord, stepped, Stepped, stepCall, stepRefusal, afterStep, entryRefusal, ran, runCall, afterRun}
 use Rattle.host.specs.Compiling.{Compiled, compiled, compileCall}
-use Rattle.host.specs.Playing.{Buffers, PlayedByCalls, DrawnByCalls, LastWriterByCalls}
+use Rattle.host.specs.Playing.{Buffers, stepOn, CommandAwaited, AnsweredAs, CountedByCalls, PlayedByCalls, DrawnByCalls, LastWriterByCalls}
 use Rattle.host.specs.Views.{glassCall, placeCall, placeRefusal, glassRefusal}
 use Rattle.host.specs.Pulses.{pulsesCall, pulseRowCall, rowRefusal}
+use Rattle.host.proofs.Refusals.{one-or-two, never-none, entry-of-none, entry-of-chip, refused-at-entry, refusal-of-chip}
 use Rattle.record_words.proofs.Laws.{words-chip-words, stands-allowed}
-use Rattle.host.proofs.Playing.{as-buffers, as-stands, played-by-calls, last-writer-stands, last-writer-none}
+use Rattle.host.proofs.Steps.{command-numbers}
+use Rattle.host.proofs.Steps.{buffersOf, as-buffers, as-stands}
+use Rattle.host.proofs.Steps.{no-record-stepped}
+use Rattle.host.proofs.Commands.{command-awaited, awaits-command, step-command-number, counted-stands, counted-none}
+use Rattle.host.proofs.Playing.{played-by-calls, last-writer-stands, last-writer-none}
 
 module _ (ws m w : List ℕ) where
-  never-none : noRecord m w ≡ 0 → ⊥
-  never-none = go (not (eqb (length m) places) || not (eqb (length w) places))
-    where
-      go : (t : Bool) → refuse t 1 then 2 ≡ 0 → ⊥
-      go true e = suc-ne-zero 0 e
-      go false e = suc-ne-zero 1 e
-
-  entry-of-none : standsFor ws ≡ false → entryRefusal ws m w ≡ noRecord m w
-  entry-of-none n = rw n
-
-  entry-of-chip : standsFor ws ≡ true → inside.entryRefusal (state (chipOf ws) m w) ≡ entryRefusal ws m w
-  unfolding inside.entryRefusal
-  entry-of-chip h = rw (stands-allowed ws h, h)
-
-  -- words that stand for no record are refused at entry
-  refused-at-entry : standsFor ws ≡ false → (rest : ℕ) → entryRefusal ws m w then rest ≡ noRecord m w
-  refused-at-entry n rest = go (not (eqb (length m) places) || not (eqb (length w) places)) (entry-of-none n)
-    where
-      go : (t : Bool) → entryRefusal ws m w ≡ refuse t 1 then 2 → entryRefusal ws m w then rest ≡ refuse t 1 then 2
-      go true e = rw e
-      go false e = rw e
-
   module _ (event : ℕ) where
-    refusal-of-chip : standsFor ws ≡ true → refusalOf event (state (chipOf ws) m w) ≡ stepRefusal event ws m w
-    unfolding refusalOf chipOf
-    refusal-of-chip h = ap (λ (k : ℕ). k then eventRefusal event (getD ws COUNT 0)) (entry-of-chip h)
-
     pub step-refused : (k : ℕ) → stepRefusal event ws m w ≡ suc k → stepCall event ws m w ≡ stepped (suc k) ws m w
     unfolding stepCall stepOf
     step-refused k r = go (standsFor ws) refl
       where
         go : (t : Bool) → standsFor ws ≡ t → stepCall event ws m w ≡ stepped (suc k) ws m w
-        go true h = rw (h, refusal-of-chip h ∙ r, words-chip-words ws h)
-        go false h = rw (h, sym (refused-at-entry h _) ∙ r)
+        go true h = rw (h, refusal-of-chip ws m w event h ∙ r, words-chip-words ws h)
+        go false h = rw (h, sym (refused-at-entry ws m w h _) ∙ r)
 
     pub step-accepted : stepRefusal event ws m w ≡ 0 → stepCall event ws m w ≡ afterStep (accepted event (state (chipOf ws) m w))
     unfolding stepCall stepOf
     step-accepted r = go (standsFor ws) refl
       where
         go : (t : Bool) → standsFor ws ≡ t → stepCall event ws m w ≡ afterStep (accepted event (state (chipOf ws) m w))
-        go true h = rw (h, refusal-of-chip h ∙ r)
-        go false h = absurd (never-none (sym (refused-at-entry h (eventRefusal event (getD ws COUNT 0))) ∙ r))
+        go true h = rw (h, refusal-of-chip ws m w event h ∙ r)
+        go false h = absurd (never-none ws m w (sym (refused-at-entry ws m w h (eventRefusal event (getD ws COUNT 0))) ∙ r))
 
   module _ (events : List ℕ) where
-    pub run-refused : (k : ℕ) → entryRefusal ws m w ≡ suc k → runCall events ws m w ≡ ran (suc k) 0 ws m w
+    -- and nothing is counted
+    pub run-refused : (k : ℕ) → entryRefusal ws m w ≡ suc k → runCall events ws m w ≡ ran (suc k) 0 0 0 ws m w
     unfolding runCall runOf
     run-refused k r = go (standsFor ws) refl
       where
-        go : (t : Bool) → standsFor ws ≡ t → runCall events ws m w ≡ ran (suc k) 0 ws m w
-        go true h = rw (h, entry-of-chip h ∙ r, words-chip-words ws h)
-        go false h = rw (h, sym (entry-of-none h) ∙ r)
+        uncounted : (a : CommandAnswer) → standsFor ws ≡ true → 0 ≡ tally a events (state (chipOf ws) m w)
+        uncounted a h = tally-refused a events (state (chipOf ws) m w) (suc k) (sym (entry-of-chip ws m w h ∙ r)) (suc-ne-zero k)
 
-    pub run-entered : entryRefusal ws m w ≡ 0 → runCall events ws m w ≡ afterRun (runFrom 0 events (state (chipOf ws) m w))
+        go : (t : Bool) → standsFor ws ≡ t → runCall events ws m w ≡ ran (suc k) 0 0 0 ws m w
+        go true h = rw (h, entry-of-chip ws m w h ∙ r, words-chip-words ws h, ← uncounted Unknown h, ← uncounted OutOfRange h)
+        go false h = rw (h, sym (entry-of-none ws m w h) ∙ r)
+
+    pub run-entered :
+        entryRefusal ws m w ≡ 0
+        → runCall events ws m w
+        ≡ afterRun (runFrom 0 events (state (chipOf ws) m w)) (tally Unknown events (state (chipOf ws) m w)) (tally OutOfRange events (state (chipOf ws) m w))
     unfolding runCall runOf
     run-entered r = go (standsFor ws) refl
       where
-        go : (t : Bool) → standsFor ws ≡ t → runCall events ws m w ≡ afterRun (runFrom 0 events (state (chipOf ws) m w))
-        go true h = rw (h, entry-of-chip h ∙ r)
-        go false h = absurd (never-none (sym (entry-of-none h) ∙ r))
+        go :
+            (t : Bool) → standsFor ws ≡ t
+            → runCall events ws m w
+            ≡ afterRun (runFrom 0 events (state (chipOf ws) m w)) (tally Unknown events (state (chipOf ws) m w)) (tally OutOfRange events (state (chipOf ws) m w))
+        go true h = rw (h, entry-of-chip ws m w h ∙ r)
+        go false h = absurd (never-none ws m w (sym (entry-of-none ws m w h) ∙ r))
 
 -- ---- compiling
 
@@ -304,6 +297,63 @@ module _ (row : ℕ) (ws m out : List ℕ) where
   pulse-row-written r =
       let h = stands-unless-refused row 0 ws m (then-zero _ _ r .0) in
       rw (h, row-of-chip h ∙ r)
+
+-- ---- the answers to commands, by calls alone
+
+page-word : (ws : List ℕ) → chipOf ws .registers .h ≡ getD ws H 0
+unfolding chipOf
+page-word ws = refl
+
+-- pcf8820_step gives 259, 260 and 261 each exactly when the event is a command byte that is accepted and has that answer
+pub answered-by-call : (e : ℕ) (b : Buffers) (a : CommandAnswer) → (stepOn e b .number ≡ commandNumber a) ↔ AnsweredAs a e b
+answered-by-call e b a = go (standsFor (b .words)) refl
+  where
+    s : State
+    s = state (chipOf (b .words)) (b .memory) (b .writers)
+
+    no-answer : noRecord (b .memory) (b .writers) ≡ commandNumber a → ⊥
+    no-answer q = omega (arith, q, command-numbers a .0, one-or-two (b .memory) (b .writers) .1)
+
+    go : (t : Bool) → standsFor (b .words) ≡ t → (stepOn e b .number ≡ commandNumber a) ↔ AnsweredAs a e b
+    go true h = (there, back)
+      where
+        same : b ≡ buffersOf s
+        same = as-buffers (b .words) (b .memory) (b .writers) h
+
+        by-chip : (stepOn e (buffersOf s) .number ≡ commandNumber a) ↔ ((refusalOf e s ≡ 0) × (stepOf e s .answer ≡ Command a))
+        by-chip = step-command-number e s (as-stands (b .words) (b .memory) (b .writers) h) a
+
+        there : stepOn e b .number ≡ commandNumber a → AnsweredAs a e b
+        there q =
+            let given = by-chip .0 (sym (ap (λ (c : Buffers). stepOn e c .number) same) ∙ q) in
+            let so = answered-exactly e s (given .0) a .0 (given .1) in
+            record {
+              not-refused = sym (refusal-of-chip (b .words) (b .memory) (b .writers) e h) ∙ given .0;
+              is-byte = so .0;
+              awaited = subst CommandAwaited (sym same) (awaits-command s (so .1));
+              in-page = subst (λ (n : ℕ). CommandWhen n e a) (page-word (b .words)) (so .2);
+            }
+
+        back : AnsweredAs a e b → stepOn e b .number ≡ commandNumber a
+        back w =
+            let r = refusal-of-chip (b .words) (b .memory) (b .writers) e h ∙ w .not-refused in
+            let awaits = command-awaited s (subst CommandAwaited same (w .awaited)) in
+            ap (λ (c : Buffers). stepOn e c .number) same
+            ∙ by-chip .1 (r, answered-exactly e s r a .1 (w .is-byte, awaits, subst (λ (n : ℕ). CommandWhen n e a) (sym (page-word (b .words))) (w .in-page)))
+    go false h = (
+      λ q. absurd (no-answer (sym (ap (λ (r : Stepped). r .number) (no-record-stepped e (b .words) (b .memory) (b .writers) h)) ∙ q)),
+      λ w. absurd (never-none (b .words) (b .memory) (b .writers) (sym (refused-at-entry (b .words) (b .memory) (b .writers) h _) ∙ w .not-refused)),
+    )
+
+-- pcf8820_run counts what pcf8820_step tells
+pub counted-by-calls : (es : List ℕ) (b : Buffers) → CountedByCalls es b
+counted-by-calls es b = go (standsFor (b .words)) refl
+  where
+    go : (t : Bool) → standsFor (b .words) ≡ t → CountedByCalls es b
+    go true h =
+        subst (CountedByCalls es) (sym (as-buffers (b .words) (b .memory) (b .writers) h))
+        (counted-stands es (state (chipOf (b .words)) (b .memory) (b .writers)) (as-stands (b .words) (b .memory) (b .writers) h))
+    go false h = counted-none es (b .words) (b .memory) (b .writers) h
 
 -- ---- demand 3 and demand 2 by calls alone
 

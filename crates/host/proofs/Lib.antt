@@ -1,3 +1,6 @@
 pub mod CodeWays
+pub mod Refusals
+pub mod Steps
+pub mod Commands
 pub mod Playing
 pub mod Laws

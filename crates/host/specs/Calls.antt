@@ -6,10 +6,11 @@ use lib.Dec.{leb, eqb}
 use lib.ListN.{length, getD}
 use Rattle.registers.specs.Record.{resetChip}
 use Rattle.registers.specs.Refusals.{refuse, _then_, lengthsRefusal}
-use Rattle.registers.specs.State.{state}
+use Rattle.registers.specs.State.{State, state}
+use Rattle.chip.specs.Promised.{Unknown, OutOfRange}
 use Rattle.engine.specs.Event.{numberOf}
 use Rattle.engine.specs.Step.{After, stepOf, eventRefusal}
-use Rattle.engine.specs.Run.{Outcome, runOf}
+use Rattle.engine.specs.Run.{Outcome, runOf, tally}
 use Rattle.record_words.specs.Words.{COUNT, recordLength, standsFor, chipOf, wordsOf}
 
 -- words that stand for no record: 2, unless a lent memory has another length, since 1 comes first
@@ -51,22 +52,28 @@ stepCall event ws m w = cond (standsFor ws) (afterStep (stepOf event (state (chi
 
 -- ---- pcf8820_run
 
--- besides, how many events were done
+-- besides, how many events were done, and how many of those were unknown commands and commands out of range
 pub record Ran : Type 0 where
   pub number : ℕ
   pub done : ℕ
+  pub unknown : ℕ
+  pub out-of-range : ℕ
   pub words : List ℕ
   pub memory : List ℕ
   pub writers : List ℕ
 
-abbrev pub ran : ℕ → ℕ → List ℕ → List ℕ → List ℕ → Ran
-ran n d ws m w = record { number = n; done = d; words = ws; memory = m; writers = w }
+abbrev pub ran : ℕ → ℕ → ℕ → ℕ → List ℕ → List ℕ → List ℕ → Ran
+ran n d u o ws m w = record { number = n; done = d; unknown = u; out-of-range = o; words = ws; memory = m; writers = w }
 
-abbrev pub afterRun : Outcome → Ran
-afterRun o = ran (o .refusal) (o .done) (wordsOf (o .state .chip)) (o .state .memory) (o .state .writers)
+abbrev pub afterRun : Outcome → ℕ → ℕ → Ran
+afterRun o u r = ran (o .refusal) (o .done) u r (wordsOf (o .state .chip)) (o .state .memory) (o .state .writers)
+
+-- the run over these events from s
+abbrev pub runFor : List ℕ → State → Ran
+runFor es s = afterRun (runOf es s) (tally Unknown es s) (tally OutOfRange es s)
 
 unfoldable pub runCall : List ℕ → List ℕ → List ℕ → List ℕ → Ran
-runCall events ws m w = cond (standsFor ws) (afterRun (runOf events (state (chipOf ws) m w))) (ran (noRecord m w) 0 ws m w)
+runCall events ws m w = cond (standsFor ws) (runFor events (state (chipOf ws) m w)) (ran (noRecord m w) 0 0 0 ws m w)
 
 -- ---- exactly when a call is refused: document 01's numbers in their order, read off what the host lends; 0 is none
 

@@ -1,17 +1,20 @@
--- Demand 3 and the last writer in the words of the buffers that a host in C lends, by calls alone.
+-- By calls alone, in the words of the buffers that a host in C lends: how commands are answered and counted, demand 3, and the last writer.
+use mathlib.Core.Bool.{cond}
 use mathlib.Core.List.{List, [], _∷_}
 use mathlib.Core.Logic.{_⊎_}
 use mathlib.Core.Path.{_≡_}
 use Prim.Native.Nat.{ℕ, zero, suc, _+_, _^_, _≤_, _<_}
+use lib.Dec.{eqb}
 use lib.ListN.{getD, length, take}
+use Rattle.registers.specs.Places.{H}
 use Rattle.registers.specs.Record.{ofValues, blank}
 use Rattle.registers.specs.State.{places}
-use Rattle.chip.specs.Promised.{placeOf, storedOf}
+use Rattle.chip.specs.Promised.{CommandAnswer, CommandWhen, placeOf, storedOf}
 use Rattle.lists.specs.declared.Line.{Line}
 use Rattle.lists.specs.Lists.{lines, readingOf}
 use Rattle.drawing.specs.Plain.{Picture, plainReading}
-use Rattle.record_words.specs.Words.{PHASE-RS, COUNT}
-use Rattle.host.specs.Calls.{Stepped, stepCall, Ran, ran, runCall}
+use Rattle.record_words.specs.Words.{PHASE, PHASE-RS, COUNT}
+use Rattle.host.specs.Calls.{Stepped, stepCall, stepRefusal, Ran, ran, runCall}
 
 -- what is lent with an event: the record's words, display bytes and writer numbers
 pub record Buffers : Type 0 where
@@ -44,6 +47,30 @@ abbrev pub afterEvents : List ℕ → Buffers → Buffers
 afterEvents [] b = b
 afterEvents (e ∷ es) b = afterEvents es (leftBy (stepOn e b))
 
+-- ---- the answers to commands
+
+-- a command is awaited: one byte or endless bytes, with RS 0
+abbrev pub CommandAwaited : Buffers → Type 0
+CommandAwaited b = ((getD (b .words) PHASE 0 ≡ 4) ⊎ (getD (b .words) PHASE 0 ≡ 5)) × (getD (b .words) PHASE-RS 0 ≡ 0)
+
+-- event e, lent these buffers, is a command byte that is accepted, and the sheet has this answer to it in the present page
+pub record AnsweredAs (a : CommandAnswer) (e : ℕ) (b : Buffers) : Type 0 where
+  pub not-refused : stepRefusal e (b .words) (b .memory) (b .writers) ≡ 0
+  pub is-byte : e < 256
+  pub awaited : CommandAwaited b
+  pub in-page : CommandWhen (getD (b .words) H 0) e a
+
+-- how many of the first n calls of pcf8820_step give this number, where each is lent what the one before it left
+abbrev pub callsGiving : ℕ → List ℕ → ℕ → Buffers → ℕ
+callsGiving k [] n b = 0
+callsGiving k (e ∷ es) zero b = 0
+callsGiving k (e ∷ es) (suc n) b = cond (eqb (stepOn e b .number) k) 1 0 + callsGiving k es n (leftBy (stepOn e b))
+
+-- pcf8820_run counts what pcf8820_step tells of the events that were done: 260 for unknown, 261 for out of range
+pub record CountedByCalls (es : List ℕ) (b : Buffers) : Type 0 where
+  pub unknown : runOn es b .unknown ≡ callsGiving 260 es (runOn es b .done) b
+  pub out-of-range : runOn es b .out-of-range ≡ callsGiving 261 es (runOn es b .done) b
+
 -- ---- demand 3
 
 -- what a drawing list can say something of: the display bytes, and words 0 to 28 but those of H, X and Y
@@ -52,13 +79,16 @@ pictureIn b = record { cells = b .memory; registers = blank (ofValues (b .words)
 
 -- the events es of the lines ls, given to pcf8820_step one by one
 pub record PlayedByCalls (ls : List Line) (es : List ℕ) (b : Buffers) : Type 0 where
-  -- no call gives the number of a refusal, and for every byte it gives 257, acknowledged
+  -- no call gives the number of a refusal; for every command byte it gives 259, taken, and for every other byte 257, acknowledged
   pub not-refused : (i : ℕ) → i < length es → 256 ≤ stepOn (getD es i 0) (uponEvent es i b) .number
-  pub acknowledged : (i : ℕ) → i < length es → getD es i 0 < 256 → stepOn (getD es i 0) (uponEvent es i b) .number ≡ 257
+  pub taken :
+      (i : ℕ) → i < length es → getD es i 0 < 256 → CommandAwaited (uponEvent es i b) → stepOn (getD es i 0) (uponEvent es i b) .number ≡ 259
+  pub acknowledged :
+      (i : ℕ) → i < length es → getD es i 0 < 256 → (CommandAwaited (uponEvent es i b) → ⊥) → stepOn (getD es i 0) (uponEvent es i b) .number ≡ 257
   -- the buffers are those of the list's plain reading
   pub same-picture : pictureIn (afterEvents es b) ≡ plainReading ls (pictureIn b)
-  -- pcf8820_run over the same events gives 0, does them all, and leaves the same buffers
-  pub same-run : runOn es b ≡ ran 0 (length es) (afterEvents es b .words) (afterEvents es b .memory) (afterEvents es b .writers)
+  -- pcf8820_run over the same events gives 0, does them all, counts no command that was unknown or out of range, and leaves the same buffers
+  pub same-run : runOn es b ≡ ran 0 (length es) 0 0 (afterEvents es b .words) (afterEvents es b .memory) (afterEvents es b .writers)
 
 -- the text has a plain reading, and the output's first n events play it: with any two memories 1,717 long, and with room in the count's word
 pub record DrawnByCalls (ws text : List ℕ) (n : ℕ) (out : List ℕ) : Type 0 where

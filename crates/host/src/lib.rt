@@ -58,7 +58,7 @@ pub extern "C" fn pcf8820_step(
     answer.number()
 }
 
-// Events in order up to the first refused one; `done` is how many were done.
+// Events in order up to the first refused one: how many were done, and how many of those were commands that were unknown and out of range.
 #[no_mangle]
 pub extern "C" fn pcf8820_run(
     record: &mut [u64],
@@ -66,17 +66,23 @@ pub extern "C" fn pcf8820_run(
     writers: &mut [u64],
     events: &[u16],
     done: &mut u64,
+    unknown: &mut u64,
+    out_of_range: &mut u64,
 ) -> u64
-    ensures { λ r. ⌜ ran r (now (done .exit)) (now («record» .exit)) (now (memory .exit)) (now (writers .exit))
+    ensures { λ r. ⌜ ran r (now (done .exit)) (now (unknown .exit)) (now («out_of_range» .exit)) (now («record» .exit)) (now (memory .exit)) (now (writers .exit))
         ≡ runCall (now (events .entry)) (now («record» .entry)) (now (memory .entry)) (now (writers .entry)) ⌝ }
 {
     let found = read_record(record);
     let Read::Record(chip) = found else {
         *done = 0;
+        *unknown = 0;
+        *out_of_range = 0;
         return no_record(memory.len(), writers.len());
     };
     let ran = engine::run::run(chip, memory, writers, events);
     *done = ran.done as u64;
+    *unknown = ran.unknown as u64;
+    *out_of_range = ran.out_of_range as u64;
     write_record(ran.chip, record);
     ran.refusal as u64
 }

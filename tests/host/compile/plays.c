@@ -40,18 +40,30 @@ static void read_plainly(void)
 
 static void play_by_run(const struct compiled *compiled)
 {
-    uint64_t done;
-    if (compare_run(compiled->events, compiled->length, &done) != 0 || done != compiled->length)
+    struct ran ran;
+    if (compare_run(compiled->events, compiled->length, &ran) != 0 || ran.done != compiled->length)
         fail("the run refuses an event of the compiler's");
+    if (ran.unknown != 0 || ran.out_of_range != 0)
+        fail("the run counts %llu unknown commands of the compiler's and %llu out of range",
+             (unsigned long long)ran.unknown, (unsigned long long)ran.out_of_range);
     expect_plain();
 }
 
-/* Every event is taken, and every byte acknowledged. */
+/* Every byte is acknowledged, and every command taken: a byte in phase 4 or 5 with RS 0. */
+static uint64_t good_answer(uint16_t event)
+{
+    uint64_t phase = word_now(W_PHASE);
+    if (event >= 256)
+        return 256;
+    return (phase == 4 || phase == 5) && word_now(W_PHASE_RS) == 0 ? COMMAND_TAKEN : ACK;
+}
+
 static void play_by_steps(const struct compiled *compiled)
 {
     for (size_t i = 0; i < compiled->length; i++) {
+        uint64_t right = good_answer(compiled->events[i]);
         uint64_t answer = compare_step(compiled->events[i]);
-        if (answer != (compiled->events[i] < 256 ? 257 : 256))
+        if (answer != right)
             fail("event %zu of the compiler's gets the answer %llu", i, (unsigned long long)answer);
     }
     expect_state(&played);

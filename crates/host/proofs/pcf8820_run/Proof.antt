@@ -44,7 +44,8 @@ returns-2 c =
     let written = c .before .before .before in
     let played = written .before .before .before .before .before .before in
     let found = played .before .before .before .before in
-    run-done _ _ _ (found .before .before .read-record .ensures) (found .found .given .1) _ _ _ _ _ _ _ _ _ (played .run .ensures)
+    run-done _ _ _ (found .before .before .read-record .ensures) (found .found .given .1) _ _ _ _ _ _ _ _ _ _ _ (played .run .ensures .0)
+    (played .run .ensures .1 .0) (played .run .ensures .1 .1)
     (written .write-record .ensures)
 
 pub pcf8820-run-spec : {M : Type 1} → statement M

@@ -19,7 +19,7 @@ same-length-2 : tie.Need-same-length-2
 same-length-2 c = search needs
 
 returns : tie.Need-returns
-returns c = after-played _ _ _ (c .before .before .before .before .before .before .run .ensures) (c .line-after .ensures)
+returns c = after-played _ _ _ (c .before .before .before .before .before .before .run .ensures .0) (c .line-after .ensures)
 
 pub play-spec : {M : Type 1} → statement M
 play-spec =

@@ -32,7 +32,9 @@ with-registers-requires-2 c κs = search needs
 
 returns-2 : tie.Need-returns-2
 returns-2 c =
-    command-content _ _ _ _ _ _ _ _ (c .before .before .if1 .left) (c .before .before .before .in-phase .ensures) (c .before .command .ensures) (c .with-registers2 .ensures)
+    let commanded = c .before in
+    command-content _ _ _ _ _ _ _ _ _ (commanded .before .if1 .left) (commanded .before .before .in-phase .ensures) (commanded .command .ensures .0)
+    (commanded .command .ensures .1) (c .with-registers2 .ensures)
 
 pub content-spec : {M : Type 1} → statement M
 content-spec =

@@ -22,6 +22,12 @@ enum-told-3 c = search needs
 enum-known-self-2 : tie.Need-enum-known-self-2
 enum-known-self-2 c = search needs
 
+number-requires : tie.Need-number-requires
+number-requires c κs = search needs
+
+enum-known-self-3 : tie.Need-enum-known-self-3
+enum-known-self-3 c = search needs
+
 cast-result-2 : tie.Need-cast-result-2
 cast-result-2 c = search needs
 
@@ -41,7 +47,10 @@ returns-4 : tie.Need-returns-4
 returns-4 c = search needs
 
 returns-5 : tie.Need-returns-5
-returns-5 c = ap numberOf (sym (c .before .self2 .given .1))
+returns-5 c = search needs
+
+returns-6 : tie.Need-returns-6
+returns-6 c = ap numberOf (sym (c .before .self3 .given .1))
 
 pub number-spec : {M : Type 1} → statement M
 number-spec =
@@ -53,10 +62,13 @@ number-spec =
     enum-told-2
     enum-told-3
     enum-known-self-2
+    number-requires
+    enum-known-self-3
     cast-result-2
     add-result
     returns
     returns-2
     returns-3
     returns-4
-    returns-5)
+    returns-5
+    returns-6)

@@ -1,0 +1,155 @@
+use Rattle.engine.proofs.CodeWays.{run-stops, run-goes-on, run-ends, answer-stops, answer-goes-on, answer-ends}
+use Rattle.engine.proofs.CodeWays.{Tallied, tally-begins, tally-stops, tally-goes-on, tally-ends}
+use Rattle.engine.proofs.Tallies.{counted-once}
+use Rattle.commands.specs.declared.answer.CommandAnswer.the-variants.{Unknown, OutOfRange}
+use Rattle.engine.specs.Run.{runFrom, tally, answerFrom}
+use Rattle.engine.specs.Step.{refusalOf, entryRefusal}
+use Rattle.registers.specs.State.{state}
+use lib.ListN.{length, drop}
+use native.Mathlib.Omega.{arith}
+use borrow.Author.Needs.{needs}
+use Prim.Native.Nat.{_-_, _≤_}
+use mathlib.Core.Path.{_≡_, refl, sym, _∙_}
+use Rattle.engine.proofs.sequence.go_through.Statement.{statement}
+use Rattle.engine.proofs.sequence.go_through.Tie as tie
+
+abbrev Inv-loop : tie.InvT-loop
+Inv-loop memory₀ writers₀ events now-chip₀ answer₀ done₀ unknown₀ out-of-range₀ memory writers now-chip answer done unknown out-of-range =
+    (done ≤ length events)
+    × (length memory ≡ length memory₀)
+    × (length writers ≡ length writers₀)
+    × (runFrom done (drop done events) (state now-chip memory writers) ≡ runFrom 0 events (state now-chip₀ memory₀ writers₀))
+    × (answerFrom (drop done events) (state now-chip memory writers) answer ≡ answerFrom events (state now-chip₀ memory₀ writers₀) answer₀)
+    × Tallied Unknown (tally Unknown events (state now-chip₀ memory₀ writers₀)) events done (state now-chip memory writers) unknown
+    × Tallied OutOfRange (tally OutOfRange events (state now-chip₀ memory₀ writers₀)) events done (state now-chip memory writers) out-of-range
+
+abbrev μ-loop : tie.MeasureT-loop
+μ-loop memory₀ writers₀ events now-chip₀ answer₀ done₀ unknown₀ out-of-range₀ memory writers now-chip answer done unknown out-of-range =
+    length events - done
+
+loop-holds : tie.Need-loop-holds Inv-loop μ-loop
+loop-holds c = (search needs, refl, refl, refl, refl, tally-begins _ _ _, tally-begins _ _ _)
+
+mul-event : tie.Need-mul-event Inv-loop μ-loop
+mul-event c = search needs
+
+shared-slice-read-event : tie.Need-shared-slice-read-event Inv-loop μ-loop
+shared-slice-read-event c = search needs
+
+of-step-requires : tie.Need-of-step-requires Inv-loop μ-loop
+of-step-requires c κs = search needs
+
+same-length : tie.Need-same-length Inv-loop μ-loop
+same-length c = search needs
+
+same-length-2 : tie.Need-same-length-2 Inv-loop μ-loop
+same-length-2 c = search needs
+
+returns : tie.Need-returns Inv-loop μ-loop
+unfolding refusalOf entryRefusal
+returns c =
+    let inside = c .before .before .before .loop-test .taken in
+    let at-head = c .before .before .before .before .loop .inv in
+    let refused = c .before .of-step .ensures in (
+      sym (run-stops _ _ inside _ _ refused (c .if1 .taken)) ∙ at-head .3,
+      (
+        tally-stops _ _ inside _ _ _ _ (at-head .5) _ refused (c .if1 .taken),
+        (
+          tally-stops _ _ inside _ _ _ _ (at-head .6) _ refused (c .if1 .taken),
+          sym (answer-stops _ _ inside _ _ _ refused (c .if1 .taken)) ∙ at-head .4,
+        ),
+      ),
+    )
+
+accept-requires : tie.Need-accept-requires Inv-loop μ-loop
+unfolding refusalOf entryRefusal
+accept-requires c κs = sym (c .before .before .before .of-step .ensures) ∙ c .before .before .if1 .left
+
+add-done : tie.Need-add-done Inv-loop μ-loop
+add-done c =
+    let inside = c .before .before .before .before .before .before .before .before in
+    omega (arith, inside .before .before .before .before .before .before .before .before .good .1)
+
+counts-as-requires : tie.Need-counts-as-requires Inv-loop μ-loop
+counts-as-requires c κs = search needs
+
+add-unknown : tie.Need-add-unknown Inv-loop μ-loop
+add-unknown c =
+    let loop = c .before .before .before .before .before .before .before .before .before .before .before .before .before in
+    let inside = c .before .before .before .before .before .before .before .before .before .before .before .before .loop-test .taken in
+    let once = counted-once Unknown _ (c .before .before .before .before .before .before .accept .result .answer) (c .counts-as .ensures) in
+    omega (arith, loop .loop .inv .5 .at-most, inside, once, loop .before .before .before .before .good .1)
+
+counts-as-requires-2 : tie.Need-counts-as-requires-2 Inv-loop μ-loop
+counts-as-requires-2 c κs = search needs
+
+add-out-of-range : tie.Need-add-out-of-range Inv-loop μ-loop
+add-out-of-range c =
+    let loop = c .before .before .before .before .before .before .before .before .before .before .before .before .before .before in
+    let inside = c .before .before .before .before .before .before .before .before .before .before .before .before .before .loop-test .taken in
+    let once = counted-once OutOfRange _ (c .before .before .before .before .before .before .before .accept .result .answer) (c .counts-as2 .ensures) in
+    omega (arith, loop .loop .inv .6 .at-most, inside, once, loop .before .before .before .before .good .1)
+
+loop-less : tie.Need-loop-less Inv-loop μ-loop
+loop-less c = search needs
+
+loop-again : tie.Need-loop-again Inv-loop μ-loop
+unfolding refusalOf entryRefusal
+loop-again c =
+    let unknown = c .before in
+    let accepts = unknown .before .before .before .before .before .before in
+    let none = accepts .before .before .before in
+    let test = none .before .before .before in
+    let at-head = test .before .loop .inv in
+    let inside = test .loop-test .taken in
+    let refused = none .before .of-step .ensures in (
+      omega (arith, inside),
+      accepts .accept .kept .1 .1 .0 ∙ at-head .1,
+      accepts .accept .kept .1 .1 .1 .0 ∙ at-head .2,
+      sym (run-goes-on _ _ inside _ _ _ refused (none .if1 .left) (accepts .accept .ensures)) ∙ at-head .3,
+      sym (answer-goes-on _ _ inside _ _ _ _ refused (none .if1 .left) (accepts .accept .ensures)) ∙ at-head .4,
+      tally-goes-on _ _ inside _ _ _ _ (at-head .5) _ _ _ refused (none .if1 .left) (accepts .accept .ensures) (unknown .counts-as .ensures),
+      tally-goes-on _ _ inside _ _ _ _ (at-head .6) _ _ _ refused (none .if1 .left) (accepts .accept .ensures) (c .counts-as2 .ensures),
+    )
+
+same-length-3 : tie.Need-same-length-3 Inv-loop μ-loop
+same-length-3 c = search needs
+
+same-length-4 : tie.Need-same-length-4 Inv-loop μ-loop
+same-length-4 c = search needs
+
+returns-2 : tie.Need-returns-2 Inv-loop μ-loop
+returns-2 c =
+    let at-head = c .before .loop .inv in
+    let ended : c .before .loop .done ≡ length (c .before .before .before .before .before .args .events .now) = omega arith in (
+      sym (run-ends _ _ _ ended) ∙ at-head .3,
+      (
+        tally-ends _ _ _ _ _ _ (at-head .5) ended,
+        (tally-ends _ _ _ _ _ _ (at-head .6) ended, sym (answer-ends _ _ _ _ ended) ∙ at-head .4),
+      ),
+    )
+
+pub go-through-spec : {M : Type 1} → statement M
+go-through-spec =
+    tie.close
+    (tie.spec
+    Inv-loop
+    μ-loop
+    loop-holds
+    mul-event
+    shared-slice-read-event
+    of-step-requires
+    same-length
+    same-length-2
+    returns
+    accept-requires
+    add-done
+    counts-as-requires
+    add-unknown
+    counts-as-requires-2
+    add-out-of-range
+    loop-less
+    loop-again
+    same-length-3
+    same-length-4
+    returns-2)
