@@ -10,9 +10,11 @@ int main(int argc, char **argv)
     harness_start();
     test_resets();
     test_commands();
+    test_answers();
     test_display();
     test_counts();
     test_runs();
+    test_run_counts();
     test_refusals();
     test_events();
     report_calls("host tests");
