@@ -12,7 +12,7 @@ fn kept_in_bank(bank: u8, byte: u8) -> u8
 }
 
 // The swap comes first, then the six bits of bank 16.
-fn stored(registers: Registers, byte: u8) -> u8
+pub fn stored(registers: Registers, byte: u8) -> u8
     ensures { λ r. ⌜ r ≡ storedOf registers byte ⌝ }
 {
     kept_in_bank(
@@ -22,7 +22,7 @@ fn stored(registers: Registers, byte: u8) -> u8
 }
 
 // MX = 1 writes from the right. An allowed X is at most 100.
-fn column(registers: Registers) -> u8
+pub fn column(registers: Registers) -> u8
     ensures { λ r. ⌜ r ≡ columnOf registers ⌝ }
 {
     if registers.mx != 1 {

@@ -2,7 +2,7 @@
 pub mod answer;
 mod apply;
 mod byte;
-mod event;
+pub mod event;
 mod refusal;
 pub mod run;
 mod sequence;

@@ -10,7 +10,7 @@ use lib.Dec.{T, eqb, leb, ltb, ltb→lt, leb→le}
 use lib.ListN.{getD, length, drop, List·getD-map}
 use lib.Seq.{drop-cons}
 use Rattle.registers.specs.declared.Registers.{Registers}
-use Rattle.registers.specs.Data.{targetNumber, partsOf, ownersFrom, partRows, partLows, codes, placeOf, sharesOf, byteOf}
+use Rattle.registers.specs.Data.{targetNumber, partsOf, ownersFrom, partRows, partLows, partWidths, codes, placeOf, sharesOf, byteOf}
 use Rattle.registers.specs.Encode.{held, encoded, rowByte, setsField, hasField, rowHolding, rowFor}
 use Rattle.registers.specs.Places.{H}
 use Rattle.registers.specs.Record.{values}
@@ -163,7 +163,7 @@ module _ (i : ℕ) where
   unfolding byteOf
   byte-fits v b = omega (arith, code-at, all-shifted v, shifted-most (getD rows i noRow .parts) v b, small)
 
--- ---- a part's lowest bit is a bit of a byte
+-- ---- a part's lowest bit is a bit of a byte, and it has fewer bits than a byte
 
 allUpTo : ℕ → List ℕ → Bool
 allUpTo b [] = true
@@ -178,6 +178,10 @@ up-to-at b (n ∷ ns) h (suc k) = up-to-at b ns (and-right (leb n b) (allUpTo b 
 pub low-bound : (k : ℕ) → getD partLows k 0 ≤ 7
 unfolding allUpTo
 low-bound k = up-to-at 7 partLows tt k
+
+pub width-bound : (k : ℕ) → getD partWidths k 0 ≤ 7
+unfolding allUpTo
+width-bound k = up-to-at 7 partWidths tt k
 
 -- ---- the row that sets a register
 

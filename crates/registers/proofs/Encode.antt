@@ -41,7 +41,7 @@ encoded-lt (p ∷ ps) t top st fit =
     (subst (λ (x : ℕ). x ≤ 2 ^ top) (pow-add 2 (p .width) (p .low))
     (pow-mono (le-trans (omega arith) (leb→le (p .low + p .width) top (and-left (leb (p .low + p .width) top) (stacked (p .low) ps) st)))))
 
-above-div : (k b : ℕ) → above k b ≡ b / 2 ^ k
+pub above-div : (k b : ℕ) → above k b ≡ b / 2 ^ k
 above-div zero b = omega arith
 above-div (suc k) b = refl
 

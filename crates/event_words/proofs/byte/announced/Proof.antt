@@ -1,0 +1,74 @@
+use mathlib.Core.Bool.{true, false}
+use Rattle.event_words.proofs.CodeWays.{announced-known}
+use borrow.Author.Needs.{needs}
+use Rattle.event_words.proofs.byte.announced.Statement.{statement}
+use Rattle.event_words.proofs.byte.announced.Tie as tie
+
+slice-aggregate-bytes : tie.Need-slice-aggregate-bytes
+slice-aggregate-bytes c = search needs
+
+bytes-requires : tie.Need-bytes-requires
+bytes-requires c κs = search needs
+
+same-length : tie.Need-same-length
+same-length c = search needs
+
+returns : tie.Need-returns
+returns c = announced-known true true (c .before .before .before .before .before .before .if1 .taken) (c .before .before .before .before .before .if2 .taken) (c .before .before .bytes .ensures)
+
+slice-aggregate-bytes-2 : tie.Need-slice-aggregate-bytes-2
+slice-aggregate-bytes-2 c = search needs
+
+bytes-requires-2 : tie.Need-bytes-requires-2
+bytes-requires-2 c κs = search needs
+
+same-length-2 : tie.Need-same-length-2
+same-length-2 c = search needs
+
+returns-2 : tie.Need-returns-2
+returns-2 c = announced-known true false (c .before .before .before .before .before .before .if1 .taken) (c .before .before .before .before .before .if2 .left) (c .before .before .bytes2 .ensures)
+
+slice-aggregate-bytes-3 : tie.Need-slice-aggregate-bytes-3
+slice-aggregate-bytes-3 c = search needs
+
+bytes-requires-3 : tie.Need-bytes-requires-3
+bytes-requires-3 c κs = search needs
+
+same-length-3 : tie.Need-same-length-3
+same-length-3 c = search needs
+
+returns-3 : tie.Need-returns-3
+returns-3 c = announced-known false true (c .before .before .before .before .before .before .if1 .left) (c .before .before .before .before .before .if3 .taken) (c .before .before .bytes3 .ensures)
+
+slice-aggregate-bytes-4 : tie.Need-slice-aggregate-bytes-4
+slice-aggregate-bytes-4 c = search needs
+
+bytes-requires-4 : tie.Need-bytes-requires-4
+bytes-requires-4 c κs = search needs
+
+same-length-4 : tie.Need-same-length-4
+same-length-4 c = search needs
+
+returns-4 : tie.Need-returns-4
+returns-4 c = announced-known false false (c .before .before .before .before .before .before .if1 .left) (c .before .before .before .before .before .if3 .left) (c .before .before .bytes4 .ensures)
+
+pub announced-spec : {M : Type 1} → statement M
+announced-spec =
+    tie.close
+    (tie.spec
+    slice-aggregate-bytes
+    bytes-requires
+    same-length
+    returns
+    slice-aggregate-bytes-2
+    bytes-requires-2
+    same-length-2
+    returns-2
+    slice-aggregate-bytes-3
+    bytes-requires-3
+    same-length-3
+    returns-3
+    slice-aggregate-bytes-4
+    bytes-requires-4
+    same-length-4
+    returns-4)

@@ -1,0 +1,24 @@
+use native.Mathlib.Omega.{arith}
+use Rattle.print.proofs.Writing.{wrote-then}
+use borrow.Author.Needs.{needs}
+use Rattle.event_words.proofs.sensor.Statement.{statement}
+use Rattle.event_words.proofs.sensor.Tie as tie
+
+slice-aggregate-bytes : tie.Need-slice-aggregate-bytes
+slice-aggregate-bytes c = search needs
+
+bytes-requires : tie.Need-bytes-requires
+bytes-requires c κs = search needs
+
+decimal-requires : tie.Need-decimal-requires
+decimal-requires c κs = search needs
+
+same-length : tie.Need-same-length
+same-length c = search needs
+
+returns : tie.Need-returns
+returns c = wrote-then (omega (arith, c .before .before .before .before .before .before .before .before .before .before .good .1 .0)) (c .before .before .before .before .before .before .bytes .ensures) (c .before .before .decimal .ensures)
+
+pub sensor-spec : {M : Type 1} → statement M
+sensor-spec =
+    tie.close (tie.spec slice-aggregate-bytes bytes-requires decimal-requires same-length returns)
