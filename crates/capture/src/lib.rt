@@ -4,8 +4,8 @@ ghost use Rattle.capture.specs.Feeding.{kept, startOf, bytesFed, fed, fe
 use capture_lines::LineSoFar;
 use registers::Chip;
 
-mod play;
-mod refusal;
+pub mod play;
+pub mod refusal;
 
 // The chip after the events so far, whose count says how many they were, and the present line. Before the end of the first line the
 // pins are not known, and the chip stands with pins 0.

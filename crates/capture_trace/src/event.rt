@@ -1,0 +1,110 @@
+// A newline: the line is whole, its event is played, tallied, and told where that is asked for.
+ghost use mathlib.Core.Path.{_≡_};
+ghost use Rattle.registers.specs.State.{state};
+ghost use Rattle.print.specs.Printed.{Wrote};
+ghost use Rattle.capture_lines.specs.declared.LineSoFar.the-variants.{Number};
+ghost use Rattle.capture.specs.Feeding.{playing, endedLine};
+ghost use Rattle.event_words.specs.Line.{eventLine};
+ghost use Rattle.capture_trace.specs.Done.{doneAtEnd};
+ghost use Rattle.capture_trace.specs.Follow.{toldLine, toldLines, talliedOver};
+use crate::tally::Tally;
+use capture_lines::LineSoFar;
+use engine::answer::Answer;
+use registers::Chip;
+
+// Where a capture stands, with what was made of it so far.
+pub struct Course {
+    pub chip: Chip,
+    pub line: LineSoFar,
+    pub tally: Tally,
+    pub length: usize,
+}
+
+fn tell(told: bool, event: u16, chip: Chip, answer: Answer, out: &mut [u8], at: usize) -> usize
+    ensures { λ r. ⌜ Wrote (now (out .entry)) at (toldLine told event chip answer) (now (out .exit)) r ⌝ }
+{
+    if told {
+        return event_words::line(event, chip, answer, out, at);
+    }
+    at
+}
+
+// One event. A refused one is not counted, and so the chip's count tells.
+fn play(
+    event: u16,
+    course: Course,
+    told: bool,
+    memory: &mut [u8],
+    writers: &mut [u64],
+    out: &mut [u8],
+) -> Course
+    ensures { λ r. ⌜ playing (r .line) (state (r .chip) (now (memory .exit)) (now (writers .exit)))
+        ≡ endedLine (Number event) (state (course .chip) (now (memory .entry)) (now (writers .entry))) ⌝ }
+    ensures { λ r. ⌜ r .tally
+        ≡ talliedOver (doneAtEnd (Number event) (state (course .chip) (now (memory .entry)) (now (writers .entry)))) (course .tally) ⌝ }
+    ensures { λ r. ⌜ Wrote (now (out .entry)) (course .length)
+        (toldLines told (doneAtEnd (Number event) (state (course .chip) (now (memory .entry)) (now (writers .entry))))) (now (out .exit)) (r .length) ⌝ }
+{
+    let before = course.chip;
+    let tally = course.tally;
+    let stepped = engine::step::step(event, before, memory, writers);
+    let answer = stepped.answer;
+    let after = stepped.chip;
+    if after.count == before.count {
+        return Course {
+            chip: after,
+            line: LineSoFar::Bad,
+            tally,
+            length: course.length,
+        };
+    }
+    let length = tell(told, event, before, answer, out, course.length);
+    Course {
+        chip: after,
+        line: LineSoFar::Empty,
+        tally: tally.with(answer),
+        length,
+    }
+}
+
+// A line that is no event's, as `capture` ends it.
+fn pass(course: Course, memory: &mut [u8], writers: &mut [u64]) -> Course
+    ensures { λ r. ⌜ playing (r .line) (state (r .chip) (now (memory .exit)) (now (writers .exit)))
+        ≡ endedLine (course .line) (state (course .chip) (now (memory .entry)) (now (writers .entry))) ⌝ }
+    ensures { λ r. ⌜ r .tally ≡ course .tally ⌝ }
+    ensures { λ r. ⌜ r .length ≡ course .length ⌝ }
+{
+    let chip = course.chip;
+    let line = course.line;
+    let tally = course.tally;
+    let ended = capture::play::end_line(chip, line, memory, writers);
+    let after = ended.chip;
+    let next = ended.line;
+    Course {
+        chip: after,
+        line: next,
+        tally,
+        length: course.length,
+    }
+}
+
+pub fn end_line(
+    course: Course,
+    told: bool,
+    memory: &mut [u8],
+    writers: &mut [u64],
+    out: &mut [u8],
+) -> Course
+    ensures { λ r. ⌜ playing (r .line) (state (r .chip) (now (memory .exit)) (now (writers .exit)))
+        ≡ endedLine (course .line) (state (course .chip) (now (memory .entry)) (now (writers .entry))) ⌝ }
+    ensures { λ r. ⌜ r .tally
+        ≡ talliedOver (doneAtEnd (course .line) (state (course .chip) (now (memory .entry)) (now (writers .entry)))) (course .tally) ⌝ }
+    ensures { λ r. ⌜ Wrote (now (out .entry)) (course .length)
+        (toldLines told (doneAtEnd (course .line) (state (course .chip) (now (memory .entry)) (now (writers .entry))))) (now (out .exit)) (r .length) ⌝ }
+{
+    let line = course.line;
+    let LineSoFar::Number(event) = line else {
+        return pass(course, memory, writers);
+    };
+    play(event, course, told, memory, writers, out)
+}
