@@ -69,7 +69,7 @@ bad-first xs s = ap resultOf (stuck-first xs s)
 -- ---- event lines
 
 -- the bytes p of a line that is begun stand before those of the first piece
-abbrev onto : List ℕ → List (List ℕ) → List (List ℕ)
+abbrev pub onto : List ℕ → List (List ℕ) → List (List ℕ)
 onto p [] = p ∷ []
 onto p (q ∷ qs) = (p ++ q) ∷ qs
 
@@ -135,7 +135,7 @@ events-fed (b ∷ bs) p s fit = go (eqb b newline) (split newline bs) (split-som
 -- ---- the first line
 
 -- it stays the first until its newline
-data IsFirst : LineSoFar → Type 0 where
+pub data IsFirst : LineSoFar → Type 0 where
   first : {k : ℕ} → IsFirst (First k)
   pins : {p : ℕ} → IsFirst (Pins p)
   bad : IsFirst BadFirst
@@ -150,7 +150,7 @@ joined-first b (first {k}) = either-first (ltb k 5) _ _ (either-first (eqb b (ge
 joined-first b pins = bad
 joined-first b bad = bad
 
-all-first : (p : List ℕ) {l : LineSoFar} → IsFirst l → IsFirst (withBytes l p)
+pub all-first : (p : List ℕ) {l : LineSoFar} → IsFirst l → IsFirst (withBytes l p)
 all-first [] i = i
 all-first (b ∷ p) i = all-first p (joined-first b i)
 

@@ -74,7 +74,7 @@ pub events-event : (e : ℕ) (s : List ℕ) → e < 1000 → eventsOf (split new
 events-event e s h =
     events-line (decimal e) s (decimal-free newline e (omega arith)) ∙ ap (λ (v : numbers.Number). withEvent v (eventsOf (split newline s))) (read-back e h)
 
-events-lines : (es rest : List ℕ) → Small es → eventsOf (split newline (eventLines es rest)) ≡ ahead es (eventsOf (split newline rest))
+pub events-lines : (es rest : List ℕ) → Small es → eventsOf (split newline (eventLines es rest)) ≡ ahead es (eventsOf (split newline rest))
 events-lines [] rest h = refl
 events-lines (e ∷ es) rest h =
     events-event e (eventLines es rest) (h .0) ∙ ap (λ (l : EventsRead). withEvent (Value e) l) (events-lines es rest (h .1))

@@ -44,12 +44,12 @@ told-known known e c a h w = wrote-same (ap (λ (b : Bool). toldLine b e c a) (s
 -- ---- one event: a is what the step gave. A refused event leaves the count as it was
 
 module _ (e : ℕ) (s : State) where
-  ended-number : (k : ℕ) → refusalOf e s ≡ k → playing (lineAfter k) (stepOf e s .state) ≡ endedLine (Number e) s
+  pub ended-number : (k : ℕ) → refusalOf e s ≡ k → playing (lineAfter k) (stepOf e s .state) ≡ endedLine (Number e) s
   unfolding endedLine
   ended-number zero h = let ran = run-one e s in rw (ran, h)
   ended-number (suc k) h = let ran = run-one e s in rw (ran, h)
 
-  done-number : (k : ℕ) → refusalOf e s ≡ k → doneAtEnd (Number e) s ≡ doneUnless k (doneEvent e s ∷ [])
+  pub done-number : (k : ℕ) → refusalOf e s ≡ k → doneAtEnd (Number e) s ≡ doneUnless k (doneEvent e s ∷ [])
   unfolding doneEvents
   done-number k h = rw h
 

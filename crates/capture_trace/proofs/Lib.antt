@@ -1,1 +1,6 @@
 pub mod CodeWays
+pub mod Whole
+pub mod Parts
+pub mod Events
+pub mod Tallies
+pub mod Laws
