@@ -182,25 +182,25 @@ none-scanned part at l s r e h = rw e (scans (drop at part) part at l s refl h)
 
 -- the newline there: one line of the part, then the others
 module _ (part : List ℕ) (at : ℕ) (line : LineSoFar) (s : State) {p : Playing} (h : at < length part) (n : getD part at 0 ≡ newline) (e : p ≡ endedLine line s)
-    where
-  done-at-newline : doneInBytes (drop at part) (playing line s) ≡ doneAtEnd line s ++ doneInBytes (drop (at + 1) part) p
-  unfolding doneInBytes
-  done-at-newline = rw (drop-next part at h, eq-eqb (getD part at 0) newline n, e)
+  where
+    done-at-newline : doneInBytes (drop at part) (playing line s) ≡ doneAtEnd line s ++ doneInBytes (drop (at + 1) part) p
+    unfolding doneInBytes
+    done-at-newline = rw (drop-next part at h, eq-eqb (getD part at 0) newline n, e)
 
-  pub turn-tallied :
-      (t : Tally) {u : Tally} → u ≡ talliedOver (doneAtEnd line s) t
-      → talliedOver (doneInBytes (drop (at + 1) part) p) u ≡ talliedOver (doneInBytes (drop at part) (playing line s)) t
-  turn-tallied t w =
-      ap (talliedOver (doneInBytes (drop (at + 1) part) p)) w
-      ∙ sym (tallied-append (doneAtEnd line s) (doneInBytes (drop (at + 1) part) p) t)
-      ∙ ap (λ (ds : List DoneEvent). talliedOver ds t) (sym done-at-newline)
+    pub turn-tallied :
+        (t : Tally) {u : Tally} → u ≡ talliedOver (doneAtEnd line s) t
+        → talliedOver (doneInBytes (drop (at + 1) part) p) u ≡ talliedOver (doneInBytes (drop at part) (playing line s)) t
+    turn-tallied t w =
+        ap (talliedOver (doneInBytes (drop (at + 1) part) p)) w
+        ∙ sym (tallied-append (doneAtEnd line s) (doneInBytes (drop (at + 1) part) p) t)
+        ∙ ap (λ (ds : List DoneEvent). talliedOver ds t) (sym done-at-newline)
 
-  pub turn-told :
-      (told : Bool) {l m r : List ℕ} {i j k : ℕ} → length l ≤ top → Wrote l i (toldLines told (doneAtEnd line s)) m j
-      → Wrote m j (toldLines told (doneInBytes (drop (at + 1) part) p)) r k → Wrote l i (toldLines told (doneInBytes (drop at part) (playing line s))) r k
-  turn-told told hl a b =
-      wrote-same
-      (sym (told-append told (doneAtEnd line s) (doneInBytes (drop (at + 1) part) p)) ∙ ap (toldLines told) (sym done-at-newline)) (wrote-then hl a b)
+    pub turn-told :
+        (told : Bool) {l m r : List ℕ} {i j k : ℕ} → length l ≤ top → Wrote l i (toldLines told (doneAtEnd line s)) m j
+        → Wrote m j (toldLines told (doneInBytes (drop (at + 1) part) p)) r k → Wrote l i (toldLines told (doneInBytes (drop at part) (playing line s))) r k
+    turn-told told hl a b =
+        wrote-same
+        (sym (told-append told (doneAtEnd line s) (doneInBytes (drop (at + 1) part) p)) ∙ ap (toldLines told) (sym done-at-newline)) (wrote-then hl a b)
 
 -- ---- a whole part: x is what the code found, k what the definition says
 

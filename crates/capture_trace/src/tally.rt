@@ -12,11 +12,7 @@ pub struct Tally {
 fn one_more(n: u64) -> u64
     ensures { λ r. ⌜ r ≡ oneMore n ⌝ }
 {
-    if n < 18446744073709551615 {
-        n + 1
-    } else {
-        n
-    }
+    if n < 18446744073709551615 { n + 1 } else { n }
 }
 
 impl Tally {

@@ -11,6 +11,7 @@ use lib.ListN.{length, getD}
 use Rattle.registers.specs.declared.Chip.{Chip}
 use Rattle.registers.specs.declared.Registers.{Registers}
 use Rattle.registers.specs.Record.{values, names}
+use Rattle.registers.proofs.NamePieces.{name-there}
 use Rattle.text.specs.Text.{bytes, split, join}
 use Rattle.print.specs.Chosen.{linesOf}
 use Rattle.print.specs.Printed.{decimalOf, top, Wrote, Output, wholeText}
@@ -68,10 +69,6 @@ cell-wrote {l₁} {l₂} {l₃} {l₄} {l₅} column bank first-byte second-byte
 register-fields :
     (a b c : List ℕ) → a ++ ((9 ∷ []) ++ ((b ++ (9 ∷ [])) ++ (c ++ (10 ∷ [])))) ≡ (a ++ 9 ∷ (b ++ 9 ∷ c)) ++ (10 ∷ [])
 register-fields a b c = simp append-assoc
-
--- the name is a piece of the text of all names
-name-there : (place : ℕ) → getD (split 32 (join 32 names)) place [] ≡ getD names place []
-name-there place = refl
 
 pub register-wrote :
     {l₁ l₂ l₃ l₄ l₅ all name : List ℕ} {i₁ i₂ i₃ i₄ i₅ : ℕ} (place first second : ℕ)

@@ -13,19 +13,16 @@ use Rattle.registers.specs.Data.{partRows, partTargets, partLows, partWidths, p
 use Rattle.registers.specs.Record.{names, values}
 use Rattle.registers.specs.Table.{above}
 use Rattle.registers.proofs.Encode.{above-div}
+use Rattle.registers.proofs.NamePieces.{name-there}
 use Rattle.text.specs.Text.{split, join, bytes}
 use Rattle.print.specs.Chosen.{line}
 use Rattle.print.specs.Printed.{decimalOf, top, Wrote}
-use Rattle.print.proofs.Writing.{wrote-then, wrote-same, wrote-length, wrote-none}
+use Rattle.print.proofs.Writing.{wrote-then, wrote-three, wrote-same, wrote-length, wrote-none}
 use Rattle.instruction_table.proofs.RowByte.{width-bound}
 use Rattle.event_words.specs.Fields.{namedField, fieldAt}
 use Rattle.event_words.specs.Words.{announced}
 
 -- ---- a value that the code knows by its variant, or by a test
-
-pub of-known :
-    {A : Type 0} (f : A → List ℕ) (known : A) {v : A} {l m : List ℕ} {i j : ℕ} → v ≡ known → Wrote l i (f known) m j → Wrote l i (f v) m j
-of-known f known e w = wrote-same (ap f (sym e)) w
 
 pub of-taken : (xs ys : List ℕ) {l m : List ℕ} {i j n k : ℕ} → n ≡ k → Wrote l i xs m j → Wrote l i (cond (eqb n k) xs ys) m j
 of-taken xs ys {n = n} {k = k} e w = wrote-same (ap (λ (t : Bool). cond t xs ys) (sym (eq-eqb n k e))) w
@@ -37,12 +34,7 @@ pub announced-known :
     {l m : List ℕ} {i j : ℕ} {co rs : Bool} (one display : Bool) → co ≡ one → rs ≡ display → Wrote l i (announced one display) m j → Wrote l i (announced co rs) m j
 announced-known one display e f w = rw (e, f) w
 
--- ---- one after the other
-
-pub wrote-three :
-    {l m n r xs ys zs : List ℕ} {i j k e : ℕ} → length l ≤ top → Wrote l i xs m j → Wrote m j ys n k → Wrote n k zs r e
-    → Wrote l i (xs ++ (ys ++ zs)) r e
-wrote-three {m = m} h a b c = let hm : length m ≤ top = omega (arith, wrote-length a) in wrote-then h a (wrote-then hm b c)
+-- ---- a display byte
 
 -- numbers parted by a space
 pub display-wrote :
@@ -60,10 +52,6 @@ display-wrote {m = m} {n = n} column bank byte {c} {s} h ec es w x y z =
     (wrote-then h w (wrote-three hm x y z))
 
 -- ---- a field
-
--- the name is a piece of the text of all names
-name-there : (place : ℕ) → getD (split 32 (join 32 names)) place [] ≡ getD names place []
-name-there place = refl
 
 pub field-wrote :
     {l m n o r all name : List ℕ} {i j k e f : ℕ} (place value : ℕ) → length l ≤ top → all ≡ join 32 names → name ≡ getD (split 32 all) place []

@@ -47,7 +47,14 @@ fn field(place: usize, value: u8, out: &mut [u8], at: usize) -> usize
 }
 
 // A part, if it is one of the row.
-fn field_at(part: usize, row: usize, registers: Registers, byte: u8, out: &mut [u8], at: usize) -> usize
+fn field_at(
+    part: usize,
+    row: usize,
+    registers: Registers,
+    byte: u8,
+    out: &mut [u8],
+    at: usize,
+) -> usize
     ensures { λ r. ⌜ Wrote (now (out .entry)) at (fieldAt registers byte row part) (now (out .exit)) r ⌝ }
 {
     if part_row(part) as usize != row {
@@ -90,5 +97,11 @@ pub fn words(registers: Registers, byte: u8, out: &mut [u8], at: usize) -> usize
     ensures { λ r. ⌜ Wrote (now (out .entry)) at (commandWords registers byte) (now (out .exit)) r ⌝ }
 {
     let word = print::bytes(b"command", out, at);
-    row_words(row_search::row_at(registers.h, byte), registers, byte, out, word)
+    row_words(
+        row_search::row_at(registers.h, byte),
+        registers,
+        byte,
+        out,
+        word,
+    )
 }

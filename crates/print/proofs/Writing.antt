@@ -83,11 +83,21 @@ wrote-then {l} {m} {r} {i} {j} {k} {xs} {ys} h a b =
 pub wrote-length : {l m : List ℕ} {i j : ℕ} {xs : List ℕ} → Wrote l i xs m j → length m ≡ length l
 wrote-length {l} {m} {i} {j} {xs} w = ap (λ (k : List ℕ). length k) (w .list) ∙ length-sets l i xs
 
+pub wrote-three :
+    {l m n r xs ys zs : List ℕ} {i j k e : ℕ} → length l ≤ top → Wrote l i xs m j → Wrote m j ys n k → Wrote n k zs r e
+    → Wrote l i (xs ++ (ys ++ zs)) r e
+wrote-three {m = m} h a b c = let hm : length m ≤ top = omega (arith, wrote-length a) in wrote-then h a (wrote-then hm b c)
+
 pub wrote-next : {l m : List ℕ} {i j : ℕ} {xs : List ℕ} → Wrote l i xs m j → j ≤ top
 wrote-next {i = i} {xs = xs} w = omega (arith, w .next, after-bound i (length xs))
 
 pub wrote-same : {l m : List ℕ} {i j : ℕ} {xs ys : List ℕ} → xs ≡ ys → Wrote l i xs m j → Wrote l i ys m j
 wrote-same {l} {m} {i} {j} e w = subst (λ (zs : List ℕ). Wrote l i zs m j) e w
+
+-- what was written of a value that the code knows by its variant, or by a test
+pub wrote-known :
+    {A : Type 0} (f : A → List ℕ) (known : A) {v : A} {l m : List ℕ} {i j : ℕ} → v ≡ known → Wrote l i (f known) m j → Wrote l i (f v) m j
+wrote-known f known e w = wrote-same (ap f (sym e)) w
 
 pub wrote-none : (l : List ℕ) (i : ℕ) → i ≤ top → Wrote l i [] l i
 wrote-none l i h = record { list = refl; next = sym (after-fits i 0 (omega arith) ∙ add-zero i) }

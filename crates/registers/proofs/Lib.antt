@@ -7,3 +7,4 @@ pub mod Put
 pub mod Encode
 pub mod Held
 pub mod Refusals
+pub mod NamePieces

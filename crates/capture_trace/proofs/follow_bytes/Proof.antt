@@ -73,8 +73,8 @@ loop-again c =
       wrote-next (ended .ensures .1 .1),
       line-ends _ _ _ _ _ (test .if1 .taken) there (ended .ensures .0) ∙ sym (scan .leaves _) ∙ head .inv .5,
       turn-tallied part _ _ before (test .if1 .taken) there (ended .ensures .0) (head .tally) (ended .ensures .1 .0)
-      ∙ ap (λ (ds : List DoneEvent). talliedOver ds (head .tally)) (sym passed)
-      ∙ head .inv .6,
+          ∙ ap (λ (ds : List DoneEvent). talliedOver ds (head .tally)) (sym passed)
+          ∙ head .inv .6,
       λ l j w. head .inv .7 l j
           (wrote-same (ap (toldLines (given .told)) (sym passed))
           (turn-told part _ _ before (test .if1 .taken) there (ended .ensures .0) (given .told) (omega (arith, head .inv .3, start .good)) (ended .ensures .1 .1) w)),

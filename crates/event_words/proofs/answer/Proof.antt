@@ -1,6 +1,6 @@
 use Rattle.engine.specs.declared.answer.Answer.the-variants.{Refused, Nothing, Acknowledged, NotAcknowledged, Command, Read}
 use Rattle.event_words.specs.Words.{answerWords}
-use Rattle.event_words.proofs.CodeWays.{of-known}
+use Rattle.print.proofs.Writing.{wrote-known}
 use borrow.Author.Needs.{needs}
 use Rattle.event_words.proofs.answer.Statement.{statement}
 use Rattle.event_words.proofs.answer.Tie as tie
@@ -58,42 +58,42 @@ same-length c = search needs
 
 returns : tie.Need-returns
 unfolding answerWords
-returns c = of-known answerWords (Refused _) (c .before .before .before .before .before .answer .given .1) (c .before .before .refused .ensures)
+returns c = wrote-known answerWords (Refused _) (c .before .before .before .before .before .answer .given .1) (c .before .before .refused .ensures)
 
 same-length-2 : tie.Need-same-length-2
 same-length-2 c = search needs
 
 returns-2 : tie.Need-returns-2
 unfolding answerWords
-returns-2 c = of-known answerWords Nothing (c .before .before .before .before .before .enum-told .given .1) (c .before .before .bytes .ensures)
+returns-2 c = wrote-known answerWords Nothing (c .before .before .before .before .before .enum-told .given .1) (c .before .before .bytes .ensures)
 
 same-length-3 : tie.Need-same-length-3
 same-length-3 c = search needs
 
 returns-3 : tie.Need-returns-3
 unfolding answerWords
-returns-3 c = of-known answerWords Acknowledged (c .before .before .before .before .before .enum-told2 .given .1) (c .before .before .bytes2 .ensures)
+returns-3 c = wrote-known answerWords Acknowledged (c .before .before .before .before .before .enum-told2 .given .1) (c .before .before .bytes2 .ensures)
 
 same-length-4 : tie.Need-same-length-4
 same-length-4 c = search needs
 
 returns-4 : tie.Need-returns-4
 unfolding answerWords
-returns-4 c = of-known answerWords NotAcknowledged (c .before .before .before .before .before .enum-told3 .given .1) (c .before .before .bytes3 .ensures)
+returns-4 c = wrote-known answerWords NotAcknowledged (c .before .before .before .before .before .enum-told3 .given .1) (c .before .before .bytes3 .ensures)
 
 same-length-5 : tie.Need-same-length-5
 same-length-5 c = search needs
 
 returns-5 : tie.Need-returns-5
 unfolding answerWords
-returns-5 c = of-known answerWords (Command _) (c .before .before .before .before .before .answer2 .given .1) (c .before .before .command-answer .ensures)
+returns-5 c = wrote-known answerWords (Command _) (c .before .before .before .before .before .answer2 .given .1) (c .before .before .command-answer .ensures)
 
 same-length-6 : tie.Need-same-length-6
 same-length-6 c = search needs
 
 returns-6 : tie.Need-returns-6
 unfolding answerWords
-returns-6 c = of-known answerWords (Read _) (c .before .before .before .before .before .answer3 .given .1) (c .before .before .decimal .ensures)
+returns-6 c = wrote-known answerWords (Read _) (c .before .before .before .before .before .answer3 .given .1) (c .before .before .decimal .ensures)
 
 pub answer-spec : {M : Type 1} → statement M
 answer-spec =

@@ -1,6 +1,6 @@
 use Rattle.commands.specs.declared.answer.CommandAnswer.the-variants.{Taken, Unknown, OutOfRange}
 use Rattle.event_words.specs.Words.{commandAnswerWords}
-use Rattle.event_words.proofs.CodeWays.{of-known}
+use Rattle.print.proofs.Writing.{wrote-known}
 use borrow.Author.Needs.{needs}
 use Rattle.event_words.proofs.command_answer.Statement.{statement}
 use Rattle.event_words.proofs.command_answer.Tie as tie
@@ -36,19 +36,19 @@ same-length : tie.Need-same-length
 same-length c = search needs
 
 returns : tie.Need-returns
-returns c = of-known commandAnswerWords Taken (c .before .before .before .before .before .enum-told .given .1) (c .before .before .bytes .ensures)
+returns c = wrote-known commandAnswerWords Taken (c .before .before .before .before .before .enum-told .given .1) (c .before .before .bytes .ensures)
 
 same-length-2 : tie.Need-same-length-2
 same-length-2 c = search needs
 
 returns-2 : tie.Need-returns-2
-returns-2 c = of-known commandAnswerWords Unknown (c .before .before .before .before .before .enum-told2 .given .1) (c .before .before .bytes2 .ensures)
+returns-2 c = wrote-known commandAnswerWords Unknown (c .before .before .before .before .before .enum-told2 .given .1) (c .before .before .bytes2 .ensures)
 
 same-length-3 : tie.Need-same-length-3
 same-length-3 c = search needs
 
 returns-3 : tie.Need-returns-3
-returns-3 c = of-known commandAnswerWords OutOfRange (c .before .before .before .before .before .enum-told3 .given .1) (c .before .before .bytes3 .ensures)
+returns-3 c = wrote-known commandAnswerWords OutOfRange (c .before .before .before .before .before .enum-told3 .given .1) (c .before .before .bytes3 .ensures)
 
 pub command-answer-spec : {M : Type 1} → statement M
 command-answer-spec =

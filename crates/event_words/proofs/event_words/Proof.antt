@@ -1,7 +1,6 @@
 use Rattle.engine.specs.declared.event.Event.{Event}
 use Rattle.engine.specs.declared.event.Event.the-variants.{Byte, Start, Stop, ReadAcknowledged, ReadNotAcknowledged, Reset, Sensor, Unlisted}
-use Rattle.event_words.proofs.CodeWays.{of-known}
-use Rattle.print.proofs.Writing.{wrote-none}
+use Rattle.print.proofs.Writing.{wrote-none, wrote-known}
 use native.Mathlib.Omega.{arith}
 use Rattle.event_words.specs.Words.{eventWords}
 use borrow.Author.Needs.{needs}
@@ -73,53 +72,53 @@ same-length c = search needs
 
 returns : tie.Need-returns
 unfolding eventWords
-returns c = of-known (λ (e : Event). eventWords e (c .before .before .before .before .before .before .before .before .args .chip)) (Byte _) (c .before .before .before .before .before .event .given .1) (c .before .before .words .ensures)
+returns c = wrote-known (λ (e : Event). eventWords e (c .before .before .before .before .before .before .before .before .args .chip)) (Byte _) (c .before .before .before .before .before .event .given .1) (c .before .before .words .ensures)
 
 same-length-2 : tie.Need-same-length-2
 same-length-2 c = search needs
 
 returns-2 : tie.Need-returns-2
 unfolding eventWords
-returns-2 c = of-known (λ (e : Event). eventWords e (c .before .before .before .before .before .before .before .before .args .chip)) Start (c .before .before .before .before .before .enum-told .given .1) (c .before .before .bytes .ensures)
+returns-2 c = wrote-known (λ (e : Event). eventWords e (c .before .before .before .before .before .before .before .before .args .chip)) Start (c .before .before .before .before .before .enum-told .given .1) (c .before .before .bytes .ensures)
 
 same-length-3 : tie.Need-same-length-3
 same-length-3 c = search needs
 
 returns-3 : tie.Need-returns-3
 unfolding eventWords
-returns-3 c = of-known (λ (e : Event). eventWords e (c .before .before .before .before .before .before .before .before .args .chip)) Stop (c .before .before .before .before .before .enum-told2 .given .1) (c .before .before .bytes2 .ensures)
+returns-3 c = wrote-known (λ (e : Event). eventWords e (c .before .before .before .before .before .before .before .before .args .chip)) Stop (c .before .before .before .before .before .enum-told2 .given .1) (c .before .before .bytes2 .ensures)
 
 same-length-4 : tie.Need-same-length-4
 same-length-4 c = search needs
 
 returns-4 : tie.Need-returns-4
 unfolding eventWords
-returns-4 c = of-known (λ (e : Event). eventWords e (c .before .before .before .before .before .before .before .before .args .chip)) ReadAcknowledged (c .before .before .before .before .before .enum-told3 .given .1) (c .before .before .bytes3 .ensures)
+returns-4 c = wrote-known (λ (e : Event). eventWords e (c .before .before .before .before .before .before .before .before .args .chip)) ReadAcknowledged (c .before .before .before .before .before .enum-told3 .given .1) (c .before .before .bytes3 .ensures)
 
 same-length-5 : tie.Need-same-length-5
 same-length-5 c = search needs
 
 returns-5 : tie.Need-returns-5
 unfolding eventWords
-returns-5 c = of-known (λ (e : Event). eventWords e (c .before .before .before .before .before .before .before .before .args .chip)) ReadNotAcknowledged (c .before .before .before .before .before .enum-told4 .given .1) (c .before .before .bytes4 .ensures)
+returns-5 c = wrote-known (λ (e : Event). eventWords e (c .before .before .before .before .before .before .before .before .args .chip)) ReadNotAcknowledged (c .before .before .before .before .before .enum-told4 .given .1) (c .before .before .bytes4 .ensures)
 
 same-length-6 : tie.Need-same-length-6
 same-length-6 c = search needs
 
 returns-6 : tie.Need-returns-6
 unfolding eventWords
-returns-6 c = of-known (λ (e : Event). eventWords e (c .before .before .before .before .before .before .before .before .args .chip)) Reset (c .before .before .before .before .before .enum-told5 .given .1) (c .before .before .bytes5 .ensures)
+returns-6 c = wrote-known (λ (e : Event). eventWords e (c .before .before .before .before .before .before .before .before .args .chip)) Reset (c .before .before .before .before .before .enum-told5 .given .1) (c .before .before .bytes5 .ensures)
 
 same-length-7 : tie.Need-same-length-7
 same-length-7 c = search needs
 
 returns-7 : tie.Need-returns-7
 unfolding eventWords
-returns-7 c = of-known (λ (e : Event). eventWords e (c .before .before .before .before .before .before .before .before .args .chip)) (Sensor _) (c .before .before .before .before .before .event2 .given .1) (c .before .before .sensor .ensures)
+returns-7 c = wrote-known (λ (e : Event). eventWords e (c .before .before .before .before .before .before .before .before .args .chip)) (Sensor _) (c .before .before .before .before .before .event2 .given .1) (c .before .before .sensor .ensures)
 
 returns-8 : tie.Need-returns-8
 unfolding eventWords
-returns-8 c = of-known (λ (e : Event). eventWords e (c .before .before .before .args .chip)) Unlisted (c .enum-told6 .given .1) (wrote-none _ _ (search needs))
+returns-8 c = wrote-known (λ (e : Event). eventWords e (c .before .before .before .args .chip)) Unlisted (c .enum-told6 .given .1) (wrote-none _ _ (search needs))
 
 pub event-words-spec : {M : Type 1} → statement M
 event-words-spec =

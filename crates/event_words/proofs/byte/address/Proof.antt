@@ -1,5 +1,6 @@
 use native.Mathlib.Omega.{arith}
-use Rattle.event_words.proofs.CodeWays.{wrote-three, of-taken, of-left}
+use Rattle.print.proofs.Writing.{wrote-three}
+use Rattle.event_words.proofs.CodeWays.{of-taken, of-left}
 use borrow.Author.Needs.{needs}
 use Rattle.event_words.proofs.byte.address.Statement.{statement}
 use Rattle.event_words.proofs.byte.address.Tie as tie
