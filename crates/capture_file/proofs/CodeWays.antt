@@ -67,6 +67,12 @@ begun m₀ w₀ m w c f over ec ef eo =
       are-counted = refl;
     }
 
+pub begun-answers :
+    (m₀ w₀ m w : List ℕ) (c : Capture) (f : Fed) (over : Bool) (ec : c ≡ startOf) (ef : fed (f .refusal) (f .capture) m w ≡ feedOf [] (kept c m₀ w₀))
+    (eo : over ≡ isOver (fed (f .refusal) (f .capture) m w)) → begun m₀ w₀ m w c f over ec ef eo .answers ≡ []
+unfolding begun
+begun-answers m₀ w₀ m w c f over ec ef eo = refl
+
 -- there is no more: there was no byte, or the capture is refused
 enough :
     (a : Answer) (before : List Answer) (m w : List ℕ) (some over : Bool) → ltb 0 (countOf a) ≡ some
@@ -118,6 +124,12 @@ turn-fed {m₀} {w₀} {m} {w} {m′} {w′} {f = f} t so-far left on turn =
     fed-now : feedOf (bytesOf a) (kept (f .capture) m w) ≡ feedOf (textOf (a ∷ before)) (kept startOf m₀ w₀)
     fed-now = text-taken (f .refusal) (f .capture) m w (textOf before) (bytesOf a) (kept startOf m₀ w₀) (so-far .not-refused on) (so-far .is-fed)
 
+pub turn-answers :
+    {m₀ w₀ m w m′ w′ : List ℕ} {f : Fed} {more failed : Bool} {turns : ℕ} (t : Turn) (so-far : FedSoFar m₀ w₀ f m w more failed turns) (left : 0 < turns)
+    (on : more ≡ true) (turn : TurnOfSome t m′ w′ (kept (f .capture) m w)) → turn-fed t so-far left on turn .answers ≡ turn .answer ∷ so-far .answers
+unfolding turn-fed
+turn-answers t so-far left on turn = refl
+
 pub all-fed :
     {m₀ w₀ m w : List ℕ} {f : Fed} {more failed : Bool} {turns : ℕ} (end : End) → FedSoFar m₀ w₀ f m w more failed turns
     → end ≡ finishOf (f .refusal) (f .capture) → (more ≡ false) ⊎ (turns ≡ 0) → ReplayOfSome (record { end = end; failed = failed }) m w m₀ w₀
@@ -132,3 +144,9 @@ all-fed {m₀} {w₀} {m} {w} {f = f} end so-far e why =
       is-failed = so-far .is-failed;
       is-enough = ⊎-elim (so-far .is-enough) (λ z. no-more-calls (so-far .answers) (omega (arith, z, so-far .are-counted))) why;
     }
+
+pub all-answers :
+    {m₀ w₀ m w : List ℕ} {f : Fed} {more failed : Bool} {turns : ℕ} (end : End) (so-far : FedSoFar m₀ w₀ f m w more failed turns)
+    (e : end ≡ finishOf (f .refusal) (f .capture)) (why : (more ≡ false) ⊎ (turns ≡ 0)) → all-fed end so-far e why .answers ≡ so-far .answers
+unfolding all-fed
+all-answers end so-far e why = refl

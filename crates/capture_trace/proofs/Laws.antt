@@ -51,7 +51,24 @@ none-lent text m w n = not-lent-done text m w n
 pub lines-in-parts : (ps : List (List ℕ)) (m w : List ℕ) → linesInParts (kept startOf m w) ps ≡ linesOf lineFor (doneOf (allParts ps) m w)
 lines-in-parts ps m w = lines-joined (kept startOf m w) ps ∙ ap (linesOf lineFor) (whole-done (allParts ps) m w)
 
--- and its tally counts the bytes that were acknowledged, and those that were not
+-- the tally counts the bytes that were acknowledged, and those that were not
+pub tally-exact :
+    (text m w : List ℕ)
+    → talliedOver (doneOf text m w) noneTallied ≡ tally (howMany isAcknowledged (doneOf text m w)) (howMany isNotAcknowledged (doneOf text m w))
+tally-exact text m w = ⊎-elim (λ lent. over (ended m w lent text)) (λ n. none (none-lent text m w n)) (by-lent m w)
+  where
+    Exact : List DoneEvent → Type 0
+    Exact ds = talliedOver ds noneTallied ≡ tally (howMany isAcknowledged ds) (howMany isNotAcknowledged ds)
+
+    none : doneOf text m w ≡ [] → Exact (doneOf text m w)
+    none e = subst Exact (sym e) refl
+
+    over : Ended text m w → Exact (doneOf text m w)
+    over (all-replayed end r q) = subst Exact (sym (replayed-done text m w end r)) (tally-counts (r .events) (started (r .pins) m w) refl)
+    over (refused-first n q) = none (none-follow text m w n)
+    over (refused-after n end r q) = subst Exact (sym (stopped-done n text m w end r)) (tally-counts (r .events) (started (r .pins) m w) refl)
+
+-- whatever parts the capture comes in
 pub tally-in-parts :
     (ps : List (List ℕ)) (m w : List ℕ)
     → talliedInParts (kept startOf m w) ps noneTallied
@@ -59,17 +76,4 @@ pub tally-in-parts :
 tally-in-parts ps m w =
     tallies-joined (kept startOf m w) ps noneTallied
     ∙ ap (λ (ds : List DoneEvent). talliedOver ds noneTallied) (whole-done (allParts ps) m w)
-    ∙ ⊎-elim (λ lent. over (ended m w lent (allParts ps))) (λ n. none (none-lent (allParts ps) m w n)) (by-lent m w)
-  where
-    Exact : List DoneEvent → Type 0
-    Exact ds = talliedOver ds noneTallied ≡ tally (howMany isAcknowledged ds) (howMany isNotAcknowledged ds)
-
-    none : doneOf (allParts ps) m w ≡ [] → Exact (doneOf (allParts ps) m w)
-    none e = subst Exact (sym e) refl
-
-    over : Ended (allParts ps) m w → Exact (doneOf (allParts ps) m w)
-    over (all-replayed end r q) =
-        subst Exact (sym (replayed-done (allParts ps) m w end r)) (tally-counts (r .events) (started (r .pins) m w) refl)
-    over (refused-first n q) = none (none-follow (allParts ps) m w n)
-    over (refused-after n end r q) =
-        subst Exact (sym (stopped-done n (allParts ps) m w end r)) (tally-counts (r .events) (started (r .pins) m w) refl)
+    ∙ tally-exact (allParts ps) m w

@@ -56,7 +56,7 @@ cut-anywhere xs ys p = go (partRefusal p) refl
         ∙ ap (λ (ds : List DoneEvent). ds ++ doneInPart ys (feedOf xs p .after)) (sym (done-refused xs p k e))
 
 -- no bytes, no events
-none-done : (p : Playing) → doneInPart [] p ≡ []
+pub none-done : (p : Playing) → doneInPart [] p ≡ []
 unfolding doneInPart doneInBytes
 none-done p = go (partRefusal p)
   where

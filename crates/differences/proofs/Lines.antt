@@ -9,6 +9,7 @@ use lib.Dec.{leb}
 use lib.ListN.{length, getD, length-append}
 use Rattle.registers.specs.Record.{names}
 use Rattle.registers.specs.State.{places}
+use Rattle.registers.proofs.NamePieces.{name-bound}
 use Rattle.text.proofs.Numbers.{and-both}
 use Rattle.text.specs.Text.{join}
 use Rattle.print.specs.Chosen.{linesOf, line}
@@ -100,19 +101,6 @@ module _ (a b : Memories) (ha : FromMachine a) (hb : FromMachine b) where
     where
       go : (n : ℕ) → n ≡ places → length (partsFrom (cellLineAt a b) 0 n) ≤ 97869
       go n e = omega (arith, parts-bound (cellLineAt a b) 57 places cell-line-bound n 0 (omega arith))
-
--- no name has more than three letters
-abbrev allShort : List (List ℕ) → Bool
-allShort [] = true
-allShort (n ∷ ns) = leb (length n) 3 && allShort ns
-
-short-there : (ns : List (List ℕ)) (k : ℕ) → allShort ns ≡ true → length (getD ns k []) ≤ 3
-short-there [] k e = omega arith
-short-there (n ∷ ns) zero e = leb-true (length n) 3 (and-both (leb (length n) 3) (allShort ns) e .0)
-short-there (n ∷ ns) (suc k) e = short-there ns k (and-both (leb (length n) 3) (allShort ns) e .1)
-
-name-bound : (k : ℕ) → length (getD names k []) ≤ 3
-name-bound k = short-there names k refl
 
 register-length : (a b c : List ℕ) → length ((a ++ 9 ∷ (b ++ 9 ∷ c)) ++ (10 ∷ [])) ≡ length a + length b + length c + 3
 register-length a b c = simp length-append (omega arith)

@@ -1,0 +1,2 @@
+pub mod CodeWays
+pub mod Bounds

@@ -1,0 +1,20 @@
+use native.Mathlib.Omega.{arith}
+use Rattle.print.proofs.Writing.{wrote-then}
+use borrow.Author.Needs.{needs}
+use Rattle.chip_text.proofs.lines.Statement.{statement}
+use Rattle.chip_text.proofs.lines.Tie as tie
+
+record-lines-requires : tie.Need-record-lines-requires
+record-lines-requires c κs = search needs
+
+bus-lines-requires : tie.Need-bus-lines-requires
+bus-lines-requires c κs = search needs
+
+same-length : tie.Need-same-length
+same-length c = search needs
+
+returns : tie.Need-returns
+returns c = wrote-then (omega (arith, c .before .before .before .before .before .before .before .before .before .good .1 .1 .0)) (c .before .before .before .before .before .before .record-lines .ensures) (c .before .before .bus-lines .ensures)
+
+pub lines-spec : {M : Type 1} → statement M
+lines-spec = tie.close (tie.spec record-lines-requires bus-lines-requires same-length returns)
