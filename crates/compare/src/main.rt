@@ -29,29 +29,43 @@ fn tell(
         second_writers,
         &mut out,
     ).length();
-    program_io::put(&out, length, b"compare: standard output");
+    program_io::put(b"compare", &out, length);
 }
 
-// The second capture, against what the first came to.
-fn against(first: End, first_memory: &[u8], first_writers: &[u64], second: i32) {
+// The second capture, against what the first came to. `name`, its first `named` bytes, is what a message about the second begins with.
+fn against(
+    first: End,
+    first_memory: &[u8],
+    first_writers: &[u64],
+    second: i32,
+    name: &[u8],
+    named: usize,
+) {
     let mut memory = [0u8; 1717];
     let mut writers = [0u64; 1717];
     let played = capture_file::play(second, &mut memory, &mut writers);
     let end = played.end;
     if played.failed {
-        os::fail(b"compare: reading the second capture");
+        program_io::fail(name, named);
         return;
     }
     tell(first, first_memory, first_writers, end, &memory, &writers);
 }
 
-fn compare(first: i32, second: i32) {
+fn compare(
+    first: i32,
+    first_name: &[u8],
+    first_named: usize,
+    second: i32,
+    second_name: &[u8],
+    second_named: usize,
+) {
     let mut memory = [0u8; 1717];
     let mut writers = [0u64; 1717];
     let played = capture_file::play(first, &mut memory, &mut writers);
     let end = played.end;
     if played.failed {
-        os::fail(b"compare: reading the first capture");
+        program_io::fail(first_name, first_named);
         return;
     }
     // Of a first capture that is bad, the line is told whatever the second is, and that one is not read.
@@ -59,21 +73,54 @@ fn compare(first: i32, second: i32) {
         tell(end, &memory, &writers, end, &memory, &writers);
         return;
     };
-    against(end, &memory, &writers, second);
+    against(end, &memory, &writers, second, second_name, second_named);
+}
+
+// Whether something is wrong with the arguments. Then it has been said.
+fn is_wrong_call() -> bool {
+    let words = os::arg_count();
+    if words < 3 {
+        program_io::wrong_call(b"compare", b"too few arguments", b"compare FIRST SECOND");
+        return true;
+    }
+    if 3 < words {
+        program_io::wrong_call(b"compare", b"too many arguments", b"compare FIRST SECOND");
+        return true;
+    }
+    if program_io::is_standard_input(1) && program_io::is_standard_input(2) {
+        program_io::wrong_call(
+            b"compare",
+            b"only one of the two can be standard input",
+            b"compare FIRST SECOND",
+        );
+        return true;
+    }
+    false
 }
 
 fn main() {
-    if os::arg_count() != 3 {
-        program_io::say(b"usage: compare FIRST SECOND\n");
+    if program_io::helped(b"compare", b"compare FIRST SECOND") {
         return;
     }
-    let first = program_io::open_input(1);
-    if first < 0 {
+    if is_wrong_call() {
         return;
     }
-    let second = program_io::open_input(2);
-    if second < 0 {
+    let mut first_name = io::large_buffer();
+    let first = program_io::open_input(b"compare", 1, &mut first_name);
+    if first.fd < 0 {
         return;
     }
-    compare(first, second);
+    let mut second_name = io::large_buffer();
+    let second = program_io::open_input(b"compare", 2, &mut second_name);
+    if second.fd < 0 {
+        return;
+    }
+    compare(
+        first.fd,
+        &first_name,
+        first.named,
+        second.fd,
+        &second_name,
+        second.named,
+    );
 }

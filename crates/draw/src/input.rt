@@ -9,16 +9,16 @@ pub fn room() -> [u8; 1048576]
     [0; 1048576]
 }
 
-// Whether nothing is left to read. What is left, or an error in reading, is said.
-pub fn ended(fd: i32) -> bool {
+// Whether nothing is left to read. What is left, or an error in reading, is said; `name`, its first `named` bytes, is what such a message begins with.
+pub fn ended(fd: i32, name: &[u8], named: usize) -> bool {
     let mut more = [0u8; 1];
     let got = libc::read(fd, &mut more);
     if got < 0 {
-        os::fail(b"reading the list");
+        program_io::fail(name, named);
         return false;
     }
     if 0 < got {
-        program_io::say(b"the list is longer than 1048576 bytes\n");
+        program_io::say_of(name, named, b"longer than 1048576 bytes");
         return false;
     }
     true

@@ -1,5 +1,6 @@
 // draw PINS [LIST]: prints the capture that plays a drawing list on a chip after reset, or the one line that says why the compiler refuses it.
 // The list is the file that LIST names, or standard input. Nothing is printed before the whole list is known to be good.
+// `name`, its first `named` bytes, is what a message about the list begins with.
 mod input;
 mod output;
 
@@ -99,24 +100,43 @@ fn draw_good(chip: Chip, list: &[u8]) {
 }
 
 // The whole list is read into `room`; one that does not fit is refused.
-fn draw_from(fd: i32, pins: u8, room: &mut [u8]) {
+fn draw_from(fd: i32, pins: u8, room: &mut [u8], name: &[u8], named: usize) {
     let n = io::read_full(fd, room);
-    if input::ended(fd) {
+    if input::ended(fd, name, named) {
         draw_good(Chip::reset(pins), &room[..n]);
     }
 }
 
-fn main() {
-    let words = os::arg_count();
-    let pins = pins();
-    if words < 2 || 3 < words || 3 < pins {
-        program_io::say(b"usage: draw PINS [LIST], where PINS is 0, 1, 2 or 3\n");
-        return;
-    }
-    let fd = program_io::open_input(2);
-    if fd < 0 {
+fn wrong_call(fault: &[u8]) {
+    program_io::wrong_call(b"draw", fault, b"draw PINS [LIST]");
+}
+
+fn draw_list(pins: u8) {
+    let mut name = io::large_buffer();
+    let list = program_io::open_input(b"draw", 2, &mut name);
+    if list.fd < 0 {
         return;
     }
     let mut room = input::room();
-    draw_from(fd, pins, &mut room);
+    draw_from(list.fd, pins, &mut room, &name, list.named);
+}
+
+fn main() {
+    if program_io::helped(b"draw", b"draw PINS [LIST]") {
+        return;
+    }
+    if os::arg_count() < 2 {
+        wrong_call(b"too few arguments");
+        return;
+    }
+    if 3 < os::arg_count() {
+        wrong_call(b"too many arguments");
+        return;
+    }
+    let pins = pins();
+    if 3 < pins {
+        wrong_call(b"PINS is not 0, 1, 2 or 3");
+        return;
+    }
+    draw_list(pins);
 }

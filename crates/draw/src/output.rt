@@ -8,7 +8,7 @@ const TAB: u8 = 9;
 const NEWLINE: u8 = 10;
 
 fn put(text: &[u8], n: usize) -> bool {
-    program_io::put(text, n, b"draw: standard output")
+    program_io::put(b"draw", text, n)
 }
 
 // `refused`, the number, and the line, which is 0 where there is none.

@@ -1,23 +1,65 @@
-// What the programs share: the input that an argument names, messages, and output.
+// What the programs share: words that mean something, messages, the input that an argument names, and output.
 //
 // No contract can say what the system did with a call, and these say no more than they can. A program that never asks the system meets them too;
-// that the inputs are read and the texts written is tested: tests/programs compares the programs with the model's on files and pipes.
+// that the inputs are read and the texts written is tested: tests/programs compares the programs with the model's on files and pipes, and their
+// messages with the bytes that they must be. How a line is composed is an equation, in `words`.
+pub mod words;
+
 ghost use mathlib.Core.Bool.{true};
 ghost use mathlib.Core.Path.{_≡_};
 ghost use Prim.Native.Nat.{_≤_};
 ghost use lib.ListN.{length};
-ghost use Rattle.program_io.specs.Promises.{NothingPromised, Descriptor};
+ghost use Rattle.program_io.specs.Promises.{NothingPromised, Descriptor, Opened};
 
-// The message on standard error.
-pub fn say(message: &[u8])
+// The first n bytes of the text on standard error, where it has them. The program's own name stands at their start, and a newline at their end.
+pub fn tell(text: &[u8], n: usize)
     ensures { λ _. ⌜ NothingPromised ⌝ }
 {
-    io::write_all(libc::STDERR_FILENO, message);
+    if n <= text.len() {
+        io::write_all(libc::STDERR_FILENO, &text[..n]);
+    }
 }
 
-// The first n bytes of the text on standard output. Whether all of them were taken. Where the system did not take them, that has been said, by the
-// name that the caller gives the output, its program's name in front. Where the text has fewer bytes, nothing is put and nothing said.
-pub fn put(text: &[u8], n: usize, name: &[u8]) -> bool
+// One line on standard error: the program's name, a colon, a blank and the message.
+pub fn say(program: &[u8], message: &[u8])
+    ensures { λ _. ⌜ NothingPromised ⌝ }
+{
+    let mut line = io::large_buffer();
+    let n = words::message(program, message, &mut line);
+    tell(&line, n);
+}
+
+// One line on standard error: what is wrong with the call, and how the program is called.
+pub fn wrong_call(program: &[u8], fault: &[u8], usage: &[u8])
+    ensures { λ _. ⌜ NothingPromised ⌝ }
+{
+    let mut line = io::large_buffer();
+    let n = words::wrong_call(program, fault, usage, &mut line);
+    tell(&line, n);
+}
+
+// A call of the system failed, and errno has the reason: the first `named` bytes of `name`, which `open_input` gave, a colon and the reason are one
+// line on standard error.
+pub fn fail(name: &[u8], named: usize)
+    ensures { λ _. ⌜ NothingPromised ⌝ }
+{
+    if named <= name.len() {
+        os::fail(&name[..named]);
+    }
+}
+
+// One line on standard error about an input: the first `named` bytes of `name`, a colon, a blank and the message.
+pub fn say_of(name: &[u8], named: usize, message: &[u8])
+    ensures { λ _. ⌜ NothingPromised ⌝ }
+{
+    if named <= name.len() {
+        say(&name[..named], message);
+    }
+}
+
+// The first n bytes of the text on standard output. Whether all of them were taken. Where the system did not take them, that has been said. Where the
+// text has fewer bytes, nothing is put and nothing said.
+pub fn put(program: &[u8], text: &[u8], n: usize) -> bool
     ensures { λ r. ⌜ (r ≡ true → n ≤ length (now (text .entry))) ⌝ }
 {
     if text.len() < n {
@@ -26,27 +68,88 @@ pub fn put(text: &[u8], n: usize, name: &[u8]) -> bool
     if io::write_all(libc::STDOUT_FILENO, &text[..n]) {
         return true;
     }
-    os::fail(name);
+    let mut name = io::large_buffer();
+    let named = words::title(program, b"standard output", &mut name);
+    fail(&name, named);
     false
 }
 
-// The file that an argument names, or standard input where there is no such argument. -1 where it can't be opened, which has been said.
-pub fn open_input(argument: usize) -> i32
-    ensures { λ r. ⌜ Descriptor r ⌝ }
+// Whether an argument is there and is `--help`.
+fn is_help(argument: usize) -> bool {
+    let mut word = [0u8; 16];
+    let n = os::arg(argument, &mut word);
+    if os::errno() != 0 {
+        return false;
+    }
+    words::is_help(&word[..n])
+}
+
+// Whether the only argument is `--help`. Then how the program is called has been put on standard output.
+pub fn helped(program: &[u8], usage: &[u8]) -> bool
+    ensures { λ _. ⌜ NothingPromised ⌝ }
+{
+    if os::arg_count() != 2 {
+        return false;
+    }
+    if !is_help(1) {
+        return false;
+    }
+    let mut line = io::large_buffer();
+    let n = words::usage_line(usage, &mut line, 0);
+    put(program, &line, n);
+    true
+}
+
+// Whether standard input is meant: an argument that is `-`, or that there is not.
+pub fn is_standard_input(argument: usize) -> bool
+    ensures { λ _. ⌜ NothingPromised ⌝ }
 {
     if os::arg_count() <= argument {
-        return 0;
+        return true;
     }
-    let mut path = io::buffer();
+    let mut word = [0u8; 16];
+    let n = os::arg(argument, &mut word);
+    if os::errno() != 0 {
+        return false;
+    }
+    words::is_dash(&word[..n])
+}
+
+// An input: the file's number, -1 where it can't be opened, which has been said; and how long its name is, the program's in front.
+pub struct Input {
+    pub fd: i32,
+    pub named: usize,
+}
+
+// The file that this argument names.
+fn open_file(program: &[u8], argument: usize, name: &mut [u8]) -> Input
+    ensures { λ r. ⌜ Opened r (now (name .exit)) ⌝ }
+{
+    // The longest path has 4,095 bytes.
+    let mut path = [0u8; 4095];
     let n = os::arg(argument, &mut path);
     if os::errno() != 0 {
-        os::fail(b"the file's name");
-        return -1;
+        let named = words::title(program, b"the file's name", name);
+        fail(name, named);
+        return Input { fd: -1, named };
     }
+    let named = words::title(program, &path[..n], name);
     let fd = os::open_read(&path[..n]);
     if fd < 0 {
-        os::fail(&path[..n]);
-        return -1;
+        fail(name, named);
+        return Input { fd: -1, named };
     }
-    fd
+    Input { fd, named }
+}
+
+// The file that an argument names; standard input where there is no such argument or where it is `-`. `name` is given what a message begins with
+// that is about this input, for `fail`: a message has to be composed before the call that may fail, since to fetch an argument sets errno.
+pub fn open_input(program: &[u8], argument: usize, name: &mut [u8]) -> Input
+    ensures { λ r. ⌜ Opened r (now (name .exit)) ⌝ }
+{
+    if !is_standard_input(argument) {
+        return open_file(program, argument, name);
+    }
+    let named = words::title(program, b"standard input", name);
+    Input { fd: 0, named }
 }

@@ -21,8 +21,11 @@ fn lines(page: Page, number: u8, out: &mut [u8], at: usize) -> usize {
 }
 
 fn main() {
+    if program_io::helped(b"search", b"search") {
+        return;
+    }
     if 1 < os::arg_count() {
-        program_io::say(b"usage: search\n");
+        program_io::wrong_call(b"search", b"too many arguments", b"search");
         return;
     }
     // 1,280 lines of at most 8 bytes each.
@@ -32,5 +35,5 @@ fn main() {
     next = lines(Page::Generator, 2, &mut out, next);
     next = lines(Page::Grey, 3, &mut out, next);
     next = lines(Page::Special, 4, &mut out, next);
-    program_io::put(&out, next, b"search: standard output");
+    program_io::put(b"search", &out, next);
 }

@@ -15,14 +15,14 @@ fn room() -> [u8; 81218]
 fn show(chip: Chip, memory: &[u8]) {
     let mut out = room();
     let length = picture::pixmap(chip, memory, &mut out).length();
-    program_io::put(&out, length, b"view: standard output");
+    program_io::put(b"view", &out, length);
 }
 
 // The line of a capture that is bad.
 fn refused(end: End) {
     let mut out = [0u8; 64];
     let length = listing::refused(b"", end, &mut out).length();
-    program_io::put(&out, length, b"view: standard output");
+    program_io::put(b"view", &out, length);
 }
 
 fn tell(end: End, memory: &[u8]) {
@@ -33,26 +33,31 @@ fn tell(end: End, memory: &[u8]) {
     show(chip, memory);
 }
 
-fn view(fd: i32) {
+// `name`, its first `named` bytes, is what a message about the capture begins with.
+fn view(fd: i32, name: &[u8], named: usize) {
     let mut memory = [0u8; 1717];
     let mut writers = [0u64; 1717];
     let played = capture_file::play(fd, &mut memory, &mut writers);
     let end = played.end;
     if played.failed {
-        os::fail(b"reading the capture");
+        program_io::fail(name, named);
         return;
     }
     tell(end, &memory);
 }
 
 fn main() {
+    if program_io::helped(b"view", b"view [CAPTURE]") {
+        return;
+    }
     if 2 < os::arg_count() {
-        program_io::say(b"usage: view [CAPTURE]\n");
+        program_io::wrong_call(b"view", b"too many arguments", b"view [CAPTURE]");
         return;
     }
-    let fd = program_io::open_input(1);
-    if fd < 0 {
+    let mut name = io::large_buffer();
+    let input = program_io::open_input(b"view", 1, &mut name);
+    if input.fd < 0 {
         return;
     }
-    view(fd);
+    view(input.fd, &name, input.named);
 }

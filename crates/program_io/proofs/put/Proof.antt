@@ -1,6 +1,6 @@
 use mathlib.Core.Path.{sym, subst}
-use lib.Dec.{T}
 use lib.Seq.{length-take-le}
+use lib.Dec.{T}
 use borrow.Author.Needs.{needs}
 use Rattle.program_io.proofs.put.Statement.{statement}
 use Rattle.program_io.proofs.put.Tie as tie
@@ -17,6 +17,21 @@ write-all-requires c κs = search needs
 returns-2 : tie.Need-returns-2
 returns-2 c = search needs
 
+large-buffer-requires : tie.Need-large-buffer-requires
+large-buffer-requires c κs = search needs
+
+slice-aggregate-title : tie.Need-slice-aggregate-title
+slice-aggregate-title c = search needs
+
+slice-aggregate-title-2 : tie.Need-slice-aggregate-title-2
+slice-aggregate-title-2 c = search needs
+
+title-requires : tie.Need-title-requires
+title-requires c κs = search needs
+
+slice-aggregate-fail : tie.Need-slice-aggregate-fail
+slice-aggregate-fail c = search needs
+
 fail-requires : tie.Need-fail-requires
 fail-requires c κs = search needs
 
@@ -31,5 +46,10 @@ put-spec =
     slice-aggregate-write-all
     write-all-requires
     returns-2
+    large-buffer-requires
+    slice-aggregate-title
+    slice-aggregate-title-2
+    title-requires
+    slice-aggregate-fail
     fail-requires
     returns-3)
