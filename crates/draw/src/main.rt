@@ -1,8 +1,9 @@
-// draw PINS [LIST]: prints the capture that plays a drawing list on a chip after reset, or the one line that says why the compiler refuses it.
-// The list is the file that LIST names, or standard input. Nothing is printed before the whole list is known to be good.
-// `name`, its first `named` bytes, is what a message about the list begins with.
+// draw PINS [LIST]: prints the capture that plays a drawing list on a chip after reset, or the one line that says why the compiler refuses it; then a
+// sentence on standard error says the same in words. The list is the file that LIST names, or standard input. Nothing is printed before the whole
+// list is known to be good. `name`, its first `named` bytes, is what a message about the list begins with.
 mod input;
 mod output;
+mod refusal;
 
 use registers::Chip;
 use text::Number;
@@ -25,7 +26,7 @@ fn pins() -> u8 {
 }
 
 // Whether the compiler takes the list. It is asked with no room for events: 10 then says that the list is good.
-fn is_good(chip: Chip, list: &[u8]) -> bool {
+fn is_good(chip: Chip, list: &[u8], name: &[u8], named: usize) -> bool {
     let mut none = [0u16; 0];
     let numbers = compiler::compile(chip, list, &mut none).numbers();
     if numbers.number == 0 {
@@ -34,7 +35,9 @@ fn is_good(chip: Chip, list: &[u8]) -> bool {
     if numbers.number == 10 {
         return true;
     }
-    output::refused(numbers.number, numbers.line);
+    if output::refused(numbers.number, numbers.line) {
+        refusal::explain(name, named, numbers.number, numbers.line);
+    }
     false
 }
 
@@ -90,11 +93,11 @@ fn draw(chip: Chip, list: &[u8], out: &mut [u16], memory: &mut [u8], writers: &m
 }
 
 // No line has more than 2,727 events, those of a fill of the whole glass column by column.
-fn draw_good(chip: Chip, list: &[u8]) {
+fn draw_good(chip: Chip, list: &[u8], name: &[u8], named: usize) {
     let mut out = [0u16; 2727];
     let mut memory = [0u8; 1717];
     let mut writers = [0u64; 1717];
-    if is_good(chip, list) && output::first_line(chip.pins) {
+    if is_good(chip, list, name, named) && output::first_line(chip.pins) {
         draw(chip, list, &mut out, &mut memory, &mut writers);
     }
 }
@@ -103,7 +106,7 @@ fn draw_good(chip: Chip, list: &[u8]) {
 fn draw_from(fd: i32, pins: u8, room: &mut [u8], name: &[u8], named: usize) {
     let n = io::read_full(fd, room);
     if input::ended(fd, name, named) {
-        draw_good(Chip::reset(pins), &room[..n]);
+        draw_good(Chip::reset(pins), &room[..n], name, named);
     }
 }
 
