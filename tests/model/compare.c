@@ -4,6 +4,9 @@
 
 #include <inttypes.h>
 #include <stdbool.h>
+#include <string.h>
+
+#define USAGE "compare FIRST SECOND"
 
 /* The registers in the paper's order, by their names in drawing lists; h, x, y and gr have none there. */
 static const char *const names[] = {
@@ -52,8 +55,9 @@ static bool play(FILE *file, unsigned number, struct played *played)
 int main(int argc, char **argv)
 {
     static struct played first, second;
-    if (argc != 3)
-        give_up("compare", "usage: compare FIRST SECOND");
+    check_words(argc, argv, "compare", 3, 3, USAGE);
+    if (strcmp(argv[1], "-") == 0 && strcmp(argv[2], "-") == 0)
+        wrong_call("compare", "only one of the two can be standard input", USAGE);
     FILE *first_file = open_input("compare", argv[1]);
     FILE *second_file = open_input("compare", argv[2]);
     if (!play(first_file, 1, &first) || !play(second_file, 2, &second))

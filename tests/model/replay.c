@@ -19,8 +19,7 @@ static void print_cells(const struct played *played)
 int main(int argc, char **argv)
 {
     static struct played played;
-    if (argc > 2)
-        give_up("replay", "usage: replay [CAPTURE]");
+    check_words(argc, argv, "replay", 1, 2, "replay [CAPTURE]");
     FILE *file = open_input("replay", argc == 2 ? argv[1] : NULL);
     uint64_t bad_line = play_capture(file, &played);
     check_input("replay", file);

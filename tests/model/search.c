@@ -33,9 +33,7 @@ static int looked_at(int page, unsigned byte)
 
 int main(int argc, char **argv)
 {
-    (void)argv;
-    if (argc > 1)
-        give_up("search", "usage: search");
+    check_words(argc, argv, "search", 1, 1, "search");
     for (int page = 0; page < PAGES; page++)
         for (unsigned byte = 0; byte < BYTES; byte++)
             printf("%d\t%u\t%d\n", page, byte, looked_at(page, byte));

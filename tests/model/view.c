@@ -33,8 +33,7 @@ static void print_glass(const struct played *played)
 int main(int argc, char **argv)
 {
     static struct played played;
-    if (argc > 2)
-        give_up("view", "usage: view [CAPTURE]");
+    check_words(argc, argv, "view", 1, 2, "view [CAPTURE]");
     FILE *file = open_input("view", argc == 2 ? argv[1] : NULL);
     uint64_t bad_line = play_capture(file, &played);
     check_input("view", file);

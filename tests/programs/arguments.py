@@ -1,4 +1,4 @@
-"""Themes of the arguments: files by name, files that cannot be read, wrong calls."""
+"""Themes of the arguments: files by name, standard input, files that cannot be read, wrong calls."""
 import os
 import tempfile
 
@@ -36,25 +36,42 @@ def large_files(sides):
 
 
 def relative_files(sides):
-    """Names that might be taken for options stand for files too."""
+    """Names that might be taken for options stand for files too; `-` alone is standard input."""
     here = os.getcwd()
     with tempfile.TemporaryDirectory() as directory:
         os.chdir(directory)
         try:
-            for name in ("-", "-x", "3"):
+            for name in ("-", "--", "-x", "--help", "3"):
                 for words, content in READERS:
                     sides.same(words + ["./" + name], content)
                     with open(name, "wb") as file:
                         file.write(content)
                     sides.same(words + [name], b"")
+                    sides.same(words + ["./" + name], b"261\n")
                     os.remove(name)
                 sides.same(["compare", name, name], CAPTURE)
                 with open(name, "wb") as file:
                     file.write(CAPTURE)
                 sides.same(["compare", name, "./" + name], b"")
+                sides.same(["compare", "./" + name, name], b"")
                 os.remove(name)
         finally:
             os.chdir(here)
+
+
+def standard_input(sides):
+    """`-` is standard input, as no argument is."""
+    for words, content in READERS:
+        for data in (content, content[:-1], b"", content + b"999\n"):
+            sides.known(words[0], sides.same(words + ["-"], data), sides.same(words, data).output)
+    with tempfile.TemporaryDirectory() as directory:
+        path = os.path.join(directory, "input")
+        for data in (texts.capture([256]), b"pins\t0\n261\n", b""):
+            with open(path, "wb") as file:
+                file.write(data)
+            for words in (["-", path], [path, "-"]):
+                sides.same(["compare"] + words, CAPTURE)
+                sides.same(["compare"] + words, b"")
 
 
 def unreadable(sides):
@@ -79,7 +96,7 @@ def two_files(sides):
         for path, content in ((good, CAPTURE), (bad, CAPTURE + b"261\n")):
             with open(path, "wb") as file:
                 file.write(content)
-        paths = good, bad, missing, directory, "", os.path.join(good, "below"), "/dev/null", "/dev/stdin"
+        paths = good, bad, missing, directory, "", os.path.join(good, "below"), "/dev/null", "/dev/stdin", "-"
         for first in paths:
             for second in paths:
                 sides.same(["compare", first, second], texts.capture([256]))
@@ -90,7 +107,7 @@ def two_files(sides):
 
 def no_arguments(sides):
     """A program that reads nothing, and is given nothing or something."""
-    for words in ([], [""], ["0"], ["-"], ["0", "1"]):
+    for words in ([], [""], ["0"], ["-"], ["0", "1"], ["--help"], ["--help", "0"]):
         sides.same(["search"] + words, CAPTURE)
 
 
@@ -109,4 +126,5 @@ def wrong_calls(sides):
             sides.same(["draw", pins, path], b"")
 
 
-THEMES = [no_arguments, wrong_calls, two_files, files, large_files, relative_files, unreadable]
+THEMES = [no_arguments, wrong_calls, standard_input, two_files, files, large_files, relative_files,
+          unreadable]

@@ -162,7 +162,7 @@ mutant 'events in hex' 's/"%u.n", events/"%x\\n", events/'
 mutant 'lengths of 16 bits' 's/print_capture(pins, events, length)/print_capture(pins, events, (uint16_t)length)/'
 mutant 'refusal without its line' 's/.t%" PRIu64 ".n", refusal, line/\\n", refusal/'
 mutant 'refusal without its number' 's/refused.t%" PRIu64 ".t%" PRIu64 ".n", refusal, line/refused\\t%" PRIu64 "\\n", line/'
-mutant 'pins line before a refusal' 's/printf("refused/printf("pins\\t%" PRIu64 "\\n", pins), &/'
+mutant 'pins line before a refusal' 's/printf("refused/printf("pins\\t0\\n"), &/'
 mutant 'empty list refused' 's/if (refusal != 0 \&\& refusal != TOO_SHORT)/if (refusal != TOO_SHORT)/'
 mutant 'long list cut' 's/^    if (length > MOST_TEXT)/    if (length > MOST_TEXT) length = MOST_TEXT; &/'
 mutant 'list of 1,048,576 bytes refused' 's/if (length > MOST_TEXT)/if (length >= MOST_TEXT)/'
@@ -173,16 +173,17 @@ groups=arguments
 mutant 'pins 4 taken' "s/word\[0\] > '3'/word[0] > '4'/"
 mutant 'pins 00 taken' "s/strlen(word) != 1/strlen(word) > 2/"
 mutant 'pins not looked at' "s/if (strlen(word) != 1 .*/if (0)/"
-mutant 'words behind the list passed over' 's/argc < 2 || argc > 3/argc < 2/'
+mutant 'words behind the list passed over' 's/"draw", 2, 3,/"draw", 2, 9,/'
 
 model=replay
-mutant 'words behind the capture passed over' 's/if (argc > 2)/if (0)/'
+mutant 'words behind the capture passed over' 's/"replay", 1, 2,/"replay", 1, 9,/'
 mutant 'file not read' 's/argc == 2 ? argv\[1\] : NULL/NULL/'
 mutant 'directory taken for an empty capture' 's/^    check_input.*//'
 
 model=compare
-mutant 'one file and standard input' 's/argc != 3/argc < 2 || argc > 3/'
-mutant 'words behind the captures passed over' 's/argc != 3/argc < 3/'
+mutant 'one file and standard input' \
+    's/"compare", 3, 3,/"compare", 2, 3,/; s/strcmp(argv.2., "-") == 0/argv[2] != NULL \&\& &/'
+mutant 'words behind the captures passed over' 's/"compare", 3, 3,/"compare", 3, 9,/'
 mutant 'second file opened when the first was read' \
     's/^    FILE \*second_file.*//; s/play(second_file, /play(open_input("compare", argv[2]), /'
 mutant 'second file read where the first is bad' \
@@ -201,7 +202,7 @@ mutant 'row block swapping not looked at' 's/{ 4, { 18, 19, 20, 0/{ 3, { 18, 19,
 mutant 'X 101 counted as a byte of no row' 's/if (order\[page\].row\[i\] == row)/if (order[page].row[i] == row \&\& !(row == 5 \&\& byte > 228))/'
 mutant 'byte 255 left out' 's/byte < BYTES/byte < BYTES - 1/'
 mutant 'page 4 left out' 's/page < PAGES/page < PAGES - 1/'
-mutant 'words behind the name passed over' 's/if (argc > 1)/if (0)/'
+mutant 'words behind the name passed over' 's/"search", 1, 1,/"search", 1, 9,/'
 
 model=program
 mutant 'message on standard output' 's/fprintf(stderr, "%s: ", program)/printf("%s: failed\\n", program)/'
@@ -210,4 +211,32 @@ mutant 'crash at a wrong call' 's/exit(1)/abort()/'
 mutant 'no message' 's/fprintf(stderr/snprintf(NULL, 0/; s/vfprintf(stderr/vsnprintf(NULL, 0/; s/fprintf(stderr, ".n")/(void)0/'
 mutant 'two lines of message' 's/fprintf(stderr, ".n")/fprintf(stderr, "\\n\\n")/'
 mutant 'standard input for a missing file' 's/^    if (file == NULL)/    if (file == NULL) return stdin; &/'
-mutant 'standard input for -' 's/if (path == NULL)/if (path == NULL || strcmp(path, "-") == 0)/'
+mutant 'file for -' 's/ || strcmp(path, "-") == 0//'
+mutant 'file for --help' 's/argc == 2 \&\& strcmp/0 \&\& strcmp/'
+
+groups=messages
+mutant 'help among other words' 's/argc == 2 \&\& strcmp/argc >= 2 \&\& strcmp/'
+mutant 'help on standard error' 's/printf("usage/fprintf(stderr, "usage/'
+mutant 'how a program is called left out' 's/%s; usage: %s", fault, usage/%s", fault/'
+mutant 'too few words called too many' 's/too few/too many/'
+mutant 'reason left out' 's/"%s: %s", inputs.free_place..name, strerror(errno)/"%s", inputs[free_place].name/'
+mutant 'file of the message left out' 's/"%s: %s", name_of(file), strerror(errno)/"%s", strerror(errno)/'
+mutant 'first file told for the second' 's/file == inputs.0..file ?/1 ?/'
+mutant 'standard input without its name' 's/"standard input"/"-"/'
+mutant 'newline of a name shown' "s/< ' '/< '\\\\n'/"
+mutant 'byte 127 of a name shown' 's/ || \*byte == 127//'
+mutant 'no name shown as nothing' "s/\\*name == '.0'/0/"
+mutant 'path of 4,095 bytes not named' 's/> MOST_PATH)/>= MOST_PATH)/'
+
+model=compare
+mutant 'standard input twice' 's/strcmp(argv.2., "-") == 0/0/'
+mutant 'standard input once refused' 's/strcmp(argv.1., "-") == 0 \&\& strcmp/strcmp(argv[1], "-") == 0 || strcmp/'
+
+model=draw
+mutant 'rules exchanged' 's/case 6:/case 7:/; t; s/case 7:/case 6:/'
+mutant 'line 0 told' 's/if (line != 0)/if (1)/'
+mutant 'no line told' 's/if (line != 0)/if (0)/'
+mutant 'list not named' 's/"draw: %s", name)/"draw: the list")/'
+mutant 'sentence on standard output' 's/fprintf(stderr, ": refused by/printf(": refused by/'
+mutant 'wrong pins told without the usage' 's/wrong_call("draw", \("PINS.*\), USAGE)/give_up("draw", \1)/'
+mutant 'long list not named' 's/"%s: longer than %d bytes", name_of(file), /"longer than %d bytes", /'

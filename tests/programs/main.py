@@ -3,8 +3,8 @@
     main.py [--status] PROGRAMS MODEL [quick GROUP...]
 
 PROGRAMS and MODEL are directories with the five programs. `--status` asks for a status that is not 0
-where a call fails. `quick` takes a sample of the cases, of these groups only: arguments, captures,
-pairs, lists.
+where a call fails. `quick` takes a sample of the cases, of these groups only: arguments, messages,
+captures, pairs, lists.
 """
 import os
 import sys
@@ -12,12 +12,13 @@ import sys
 import arguments
 import captures
 import lists
+import messages
 import pairs
 from sides import Difference, Sides, report
 
 
-GROUPS = {"arguments": arguments.THEMES, "captures": captures.THEMES, "pairs": pairs.THEMES,
-          "lists": lists.THEMES}
+GROUPS = {"arguments": arguments.THEMES, "messages": messages.THEMES, "captures": captures.THEMES,
+          "pairs": pairs.THEMES, "lists": lists.THEMES}
 
 
 def compare(sides, groups):

@@ -2,11 +2,14 @@
 
 What is asked of a program, by what the model does:
 
-- the model ends with status 0: the output is the model's, byte by byte; where it is no refusal, the
-  status is 0 and nothing stands on standard error;
-- the model gives up: there is no crash, no output, and exactly one line on standard error; the status
-  is not 0 where that is asked for. (It is not asked of a Rattle program: it ends with 0 whenever its
-  `main` returns.)
+- the model ends with status 0: the output is the model's, byte by byte, the status is 0 and nothing
+  stands on standard error; but where `draw` refuses, one line there says by which number and at which
+  line;
+- the model gives up: there is no crash, no output, and exactly one line on standard error, which begins
+  with the program's name; the status is not 0 where that is asked for. (It is not asked of a Rattle
+  program: it ends with 0 whenever its `main` returns.)
+
+The bytes of the messages are held against a table, in messages.py.
 """
 import array
 import fcntl
@@ -89,19 +92,33 @@ def shown(data):
     return repr(data[:300]) + (f" and {len(data) - 300} bytes more" if len(data) > 300 else "")
 
 
-def difference(ours, theirs, with_status):
+def is_message(program, said):
+    """One line that begins with the program's name."""
+    return said.count(b"\n") == 1 and said.endswith(b"\n") and said.startswith(program.encode() + b": ")
+
+
+def is_told(program, output, said):
+    """What stands on standard error where the output is this one: nothing, but for a refusal of `draw`."""
+    if program != "draw" or not output.startswith(b"refused\t"):
+        return said == b""
+    number, line = output.split()[1:]
+    place = b", line " + line if line != b"0" else b""
+    return is_message(program, said) and place + b": refused by " + number + b": " in said
+
+
+def difference(program, ours, theirs, with_status):
     """What is wrong with ours, or None."""
     if theirs.status != 0:
         if ours.status < 0 or (with_status and ours.status == 0):
             return f"status {ours.status} for a call that has to fail"
         if ours.output:
             return f"output {shown(ours.output)} of a call that has to fail"
-        if ours.said.count(b"\n") != 1 or not ours.said.endswith(b"\n") or len(ours.said) < 2:
-            return f"not one line on standard error: {shown(ours.said)}"
+        if not is_message(program, ours.said):
+            return f"not one line of {program} on standard error: {shown(ours.said)}"
         return None
     if ours.output != theirs.output:
         return f"output\n  {shown(ours.output)}\nand not\n  {shown(theirs.output)}"
-    if not theirs.output.startswith(b"refused\t") and (ours.status != 0 or ours.said):
+    if ours.status != 0 or not is_told(program, ours.output, ours.said):
         return f"status {ours.status}, standard error {shown(ours.said)}"
     return None
 
@@ -117,16 +134,39 @@ class Sides:
     def words(self, directory, words):
         return [os.path.join(directory, words[0])] + words[1:]
 
-    def judge(self, what, inputs, ours, theirs):
-        wrong = difference(ours, theirs, self.with_status)
+    def hold(self, wrong, what, inputs):
         if wrong:
             raise Difference(f"{self.theme}: {what}\ninput: {', '.join(map(shown, inputs))}\n{wrong}")
         self.compared += 1
+
+    def judge(self, program, what, inputs, ours, theirs):
+        self.hold(difference(program, ours, theirs, self.with_status), what, inputs)
         return theirs
+
+    def says(self, words, said, data=b"", output=b""):
+        """The program leaves exactly this on standard error and on standard output; the model is not asked."""
+        self.left(words, run(self.words(self.programs, words), data), said, output)
+
+    def says_of_directory(self, words, directory, said):
+        """The same, with this directory, which can't be read, as standard input."""
+        stdin = os.open(directory, os.O_RDONLY)
+        try:
+            done = finish(begin(self.words(self.programs, words), stdin), None)
+        finally:
+            os.close(stdin)
+        self.left(words, done, said, b"")
+
+    def left(self, words, done, said, output):
+        wrong = None
+        if done.said != said:
+            wrong = f"standard error\n  {shown(done.said)}\nand not\n  {shown(said)}"
+        elif done.output != output:
+            wrong = f"output\n  {shown(done.output)}\nand not\n  {shown(output)}"
+        self.hold(wrong, " ".join(words)[:300], [])
 
     def same(self, words, data=b""):
         """WORDS are the program's name and its arguments; DATA is its standard input."""
-        return self.judge(" ".join(words), [data], run(self.words(self.programs, words), data),
+        return self.judge(words[0], " ".join(words), [data], run(self.words(self.programs, words), data),
                           run(self.words(self.model, words), data))
 
     def exactly(self, words, data, output):
@@ -146,18 +186,18 @@ class Sides:
                 with open(path, "wb") as file:
                     file.write(content)
             words = [program] + paths
-            return self.judge(" ".join(words), contents, run(self.words(self.programs, words), b""),
+            return self.judge(program, " ".join(words), contents, run(self.words(self.programs, words), b""),
                               run(self.words(self.model, words), b""))
 
     def same_in_pieces(self, words, data, pieces):
-        return self.judge(" ".join(words) + ", in pieces", [data],
+        return self.judge(words[0], " ".join(words) + ", in pieces", [data],
                           run_in_pieces(self.words(self.programs, words), data, pieces),
                           run(self.words(self.model, words), data))
 
     def same_piped(self, first, second, data):
         both = [self.words(directory, words) for directory in (self.programs, self.model)
                 for words in (first, second)]
-        return self.judge(" ".join(first) + " | " + " ".join(second), [data],
+        return self.judge(second[0], " ".join(first) + " | " + " ".join(second), [data],
                           run_piped(both[0], both[1], data), run_piped(both[2], both[3], data))
 
     def sample(self, cases, count):

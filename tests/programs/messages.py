@@ -1,0 +1,185 @@
+"""Themes of what the programs say: the exact bytes on standard error, and nothing on standard output.
+
+A program that reads one input, named by its last argument, has a row in READERS; one that does not, a
+theme of its own. Each program that is there has a row in USAGES.
+"""
+import os
+import tempfile
+
+import captures
+import lists
+import texts
+
+CAPTURE = texts.capture(captures.GOOD)
+LIST = lists.LIT + b"put\t5\t2\t167\n"
+
+USAGES = {
+    "replay": b"replay [CAPTURE]",
+    "view": b"view [CAPTURE]",
+    "draw": b"draw PINS [LIST]",
+    "compare": b"compare FIRST SECOND",
+    "search": b"search",
+}
+
+# The words before the input's name.
+READERS = ["replay"], ["view"], ["draw", "2"]
+
+MOST_PATH = 4095
+
+MALFORMED = (b"no put, fill or set, a field too many or too few, an unknown register, a number not of 1 to 3 digits,"
+             b" or no newline at the end")
+OUT_OF_RANGE = (b"a column above 100, a bank above 16, ends the wrong way round, a byte above 255, a byte above 63"
+                b" where bank 16 is touched, or a value wider than its field")
+TOO_MANY_LINES = b"more than 4096 lines"
+
+
+def message(program, *parts):
+    return b": ".join([program.encode(), *parts]) + b"\n"
+
+
+def wrong_call(program, fault):
+    return message(program, fault + b"; usage: " + USAGES[program])
+
+
+def written(directory, name, content):
+    path = os.path.join(directory, name)
+    with open(path, "wb") as file:
+        file.write(content)
+    return path
+
+
+def with_input(path):
+    """The calls that read the file of this path: of `compare` as each of its two."""
+    yield from (words + [path] for words in READERS)
+    yield ["compare", path, "/dev/null"]
+    yield ["compare", "/dev/null", path]
+
+
+# ---- How a program is called ----
+
+def helps(sides):
+    """`--help` as the only argument is answered on standard output."""
+    for program, usage in USAGES.items():
+        sides.says([program, "--help"], b"", CAPTURE, b"usage: " + usage + b"\n")
+
+
+def help_among_others(sides):
+    """Beside other words `--help` is a word as any other."""
+    no_file = b"--help", b"No such file or directory"
+    sides.says(["draw", "0", "--help"], message("draw", *no_file))
+    sides.says(["compare", "--help", "-"], message("compare", *no_file))
+    sides.says(["replay", "--help", "-"], wrong_call("replay", b"too many arguments"))
+    sides.says(["search", "--help", ""], wrong_call("search", b"too many arguments"))
+    for word in ("-help", "--hel", "--helps", "--HELP", "--help ", "--help" + 20 * "x"):
+        sides.says(["replay", word], message("replay", word.encode(), no_file[1]))
+
+
+def wrong_numbers_of_words(sides):
+    """Too many words, and too few; the files are not looked at."""
+    for words in READERS:
+        sides.says(words + ["missing", "-"], wrong_call(words[0], b"too many arguments"), CAPTURE)
+        for fewer in range(1, len(words)):
+            sides.says(words[:fewer], wrong_call(words[0], b"too few arguments"), CAPTURE)
+    for words in ([], ["missing"], ["-"]):
+        sides.says(["compare"] + words, wrong_call("compare", b"too few arguments"), CAPTURE)
+    sides.says(["compare", "missing", "-", "-"], wrong_call("compare", b"too many arguments"), CAPTURE)
+    for words in ([""], ["-"], ["0", "1"]):
+        sides.says(["search"] + words, wrong_call("search", b"too many arguments"), CAPTURE)
+
+
+def two_inputs(sides):
+    """Standard input is one of the two files of `compare`, and not both."""
+    sides.says(["compare", "-", "-"], wrong_call("compare", b"only one of the two can be standard input"), CAPTURE)
+
+
+def pins(sides):
+    for word in ("4", "00", "", "-1", " 0", "-", "x" * 5000):
+        sides.says(["draw", word], wrong_call("draw", b"PINS is not 0, 1, 2 or 3"), LIST)
+        sides.says(["draw", word, "missing"], wrong_call("draw", b"PINS is not 0, 1, 2 or 3"))
+
+
+# ---- Files ----
+
+def unopened(sides):
+    """Files that can't be opened: missing, below a file, with no name, without leave where that holds."""
+    with tempfile.TemporaryDirectory() as directory:
+        locked = written(directory, "locked", CAPTURE)
+        os.chmod(locked, 0)
+        below = os.path.join(locked, "below")
+        missing = os.path.join(directory, "gr\u00fcn und weg")
+        reasons = [(missing, missing.encode(), b"No such file or directory"),
+                   (below, below.encode(), b"Not a directory"), ("", b"''", b"No such file or directory")]
+        if not os.access(locked, os.R_OK):
+            reasons.append((locked, locked.encode(), b"Permission denied"))
+        for path, name, reason in reasons:
+            for words in with_input(path):
+                sides.says(words, message(words[0], name, reason), CAPTURE)
+
+
+def long_names(sides):
+    """A name that no path can have is not repeated."""
+    most = "x" * MOST_PATH
+    for words in with_input(most):
+        sides.says(words, message(words[0], most.encode(), b"File name too long"), CAPTURE)
+    for path in (most + "x", "-" * (MOST_PATH + 1), most * 5):
+        for words in with_input(path):
+            sides.says(words, message(words[0], b"the file's name", b"File name too long"), CAPTURE)
+
+
+def odd_names(sides):
+    """A message is one line, whatever the name is."""
+    for path, name in (("a\nb", b"a?b"), ("\x01\x1f\x7f \u00e4", b"??? \xc3\xa4"), ("\n", b"?"), ("refused\t1\n", b"refused?1?")):
+        for words in with_input(path):
+            sides.says(words, message(words[0], name, b"No such file or directory"), CAPTURE)
+
+
+def unread(sides):
+    """Inputs that can't be read: a directory, by its name and as standard input."""
+    with tempfile.TemporaryDirectory() as directory:
+        name = directory.encode()
+        for words in READERS:
+            sides.says(words + [directory], message(words[0], name, b"Is a directory"), CAPTURE)
+            for dash in ([], ["-"]):
+                sides.says_of_directory(words + dash, directory, message(words[0], b"standard input", b"Is a directory"))
+        good = written(directory, "good", CAPTURE)
+        sides.says(["compare", directory, good], message("compare", name, b"Is a directory"))
+        sides.says(["compare", good, directory], message("compare", name, b"Is a directory"))
+        for words in (["-", good], [good, "-"]):
+            sides.says_of_directory(["compare"] + words, directory, message("compare", b"standard input", b"Is a directory"))
+
+
+# ---- Refusals ----
+
+def refused_captures(sides):
+    """A bad capture is told by the one line on standard output."""
+    for words in (["replay"], ["view"]):
+        sides.says(words, b"", b"pins\t0\n261\n", b"refused\t2\n")
+    sides.says(["compare", "-", "/dev/null"], b"", CAPTURE, b"refused\t2\t1\n")
+
+
+def refused_lists(sides):
+    """The line on standard output, and a sentence that says by which rule and where."""
+    put = b"put\t5\t2\t167\n"
+    cases = ((b"put\t5\t2\n", b"6", b"1", MALFORMED), (put + b"put\t5\t2\t167", b"6", b"2", MALFORMED),
+             (put * 11 + b"put\t101\t2\t1\n", b"7", b"12", OUT_OF_RANGE), (put * 4095 + b"set\tpd\t2\n", b"7", b"4096", OUT_OF_RANGE),
+             (put * 4097, b"9", b"0", TOO_MANY_LINES))
+    with tempfile.TemporaryDirectory() as directory:
+        for text, number, line, rule in cases:
+            path = written(directory, "a list", text)
+            place = b"" if line == b"0" else b", line " + line
+            output = b"refused\t" + number + b"\t" + line + b"\n"
+            for words, name in (([path], path.encode()), ([], b"standard input"), (["-"], b"standard input")):
+                sides.says(["draw", "3"] + words, message("draw", name + place, b"refused by " + number, rule), text, output)
+
+
+def long_lists(sides):
+    """A list that has no room."""
+    text = b"\n" * (lists.MOST_BYTES + 1)
+    with tempfile.TemporaryDirectory() as directory:
+        path = written(directory, "list", text)
+        sides.says(["draw", "0", path], message("draw", path.encode(), b"longer than 1048576 bytes"))
+    sides.says(["draw", "0"], message("draw", b"standard input", b"longer than 1048576 bytes"), text)
+
+
+THEMES = [helps, help_among_others, wrong_numbers_of_words, two_inputs, pins, unopened, long_names, odd_names,
+          unread, refused_captures, refused_lists, long_lists]
