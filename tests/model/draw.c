@@ -52,10 +52,11 @@ static const char *rule_of(uint64_t refusal)
     }
 }
 
-/* The numbers on standard output, and a sentence on standard error. */
+/* The numbers on standard output, and after them a sentence on standard error. */
 static void print_refusal(uint64_t refusal, uint64_t line, const char *name)
 {
     printf("refused\t%" PRIu64 "\t%" PRIu64 "\n", refusal, line);
+    fflush(stdout);
     fprintf(stderr, "draw: %s", name);
     if (line != 0)
         fprintf(stderr, ", line %" PRIu64, line);

@@ -212,4 +212,4 @@ def report(sides, error=None):
     if error is not None:
         print(f"programs: DIFFERENT, after {sides.compared} equal comparisons: {error}", file=sys.stderr)
         sys.exit(1)
-    print(f"programs: {sides.compared} comparisons with the model's programs, all equal")
+    print(f"programs: {sides.compared} comparisons, with the model's programs and of messages, all equal")

@@ -1,1 +1,2 @@
 pub mod CodeWays
+pub mod Laws
