@@ -1,5 +1,6 @@
 #include "capture.h"
 
+#include "bus.h"
 #include "model.h"
 
 #include <stdbool.h>
@@ -10,8 +11,10 @@ enum { BUFFER = 1 << 16, EVENTS = 1 << 12 };
 /* What a line holds if it is no number from 0 to 999: nothing, as the file has ended, or anything. */
 enum { NO_LINE = 1000, BAD_LINE = 1001 };
 
+/* at_a_time: how many bytes are asked for, and waited for, before the first of them is looked at. */
 struct reader {
     FILE *file;
+    size_t at_a_time;
     size_t at, length;
     uint8_t buffer[BUFFER];
 };
@@ -21,7 +24,7 @@ struct reader {
 static int next_byte(struct reader *reader)
 {
     if (reader->at == reader->length) {
-        reader->length = fread(reader->buffer, 1, BUFFER, reader->file);
+        reader->length = fread(reader->buffer, 1, reader->at_a_time, reader->file);
         reader->at = 0;
         if (reader->length == 0)
             return EOF;
@@ -87,7 +90,7 @@ static size_t take_lines(struct reader *reader, uint16_t *events, unsigned *stop
 
 uint64_t play_capture(FILE *file, struct played *played)
 {
-    struct reader reader = { .file = file };
+    struct reader reader = { .file = file, .at_a_time = BUFFER };
     uint16_t events[EVENTS];
     uint64_t lines = 1;
     unsigned stopped = 0;
@@ -106,4 +109,25 @@ uint64_t play_capture(FILE *file, struct played *played)
             return lines + 1;
     }
     return 0;
+}
+
+uint64_t play_events(FILE *file, struct played *played, told *tell)
+{
+    struct reader reader = { .file = file, .at_a_time = 1 };
+    uint64_t earlier[WORDS];
+
+    memset(played, 0, sizeof *played);
+    if (model_reset(played->record, WORDS, pins_line(&reader)) != 0)
+        return 1;
+    for (uint64_t line = 2;; line++) {
+        unsigned event = event_line(&reader);
+        if (event >= NO_LINE)
+            return event == BAD_LINE ? line : 0;
+        memcpy(earlier, played->record, sizeof earlier);
+        uint64_t answer = model_step(played->record, WORDS, played->memory, PLACES,
+                                     played->writers, PLACES, (uint16_t)event);
+        if (answer < NOTHING)
+            return line;
+        tell(earlier, played, event, answer);
+    }
 }

@@ -18,4 +18,11 @@ struct played {
 /* Gives 0, or the number of the first bad line. After a bad line the rest is not read. */
 uint64_t play_capture(FILE *file, struct played *played);
 
+/* Is told of an event that was played: the record before it, the chip after it, and the answer. */
+typedef void told(const uint64_t *before, const struct played *after, unsigned event,
+                  uint64_t answer);
+
+/* The same, but each event is told of as soon as its line is there, before more is read. */
+uint64_t play_events(FILE *file, struct played *played, told *tell);
+
 #endif

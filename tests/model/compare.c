@@ -1,5 +1,6 @@
 /* compare FIRST SECOND: the cells and the registers that differ after two captures. */
 #include "capture.h"
+#include "names.h"
 #include "program.h"
 
 #include <inttypes.h>
@@ -7,14 +8,6 @@
 #include <string.h>
 
 #define USAGE "compare FIRST SECOND"
-
-/* The registers in the paper's order, by their names in drawing lists; h, x, y and gr have none there. */
-static const char *const names[] = {
-    [H] = "h", [DO] = "do", [PD] = "pd", [V] = "v", [D] = "d", [E] = "e", [MX] = "mx", [MY] = "my",
-    [PS] = "ps", [X] = "x", [Y] = "y", [BS] = "bs", [BSH] = "bsh", [DP] = "dp", [PRS] = "prs",
-    [HVE] = "hve", [S] = "s", [TC] = "tc", [SM] = "sm", [VOP] = "vop", [GR] = "gr", [GS0] = "gs0",
-    [GS1] = "gs1", [GS2] = "gs2", [GS3] = "gs3", [DOF] = "dof", [DM] = "dm", [EC] = "ec", [OC] = "oc"
-};
 
 static bool cells_differ(const struct played *first, const struct played *second, unsigned place)
 {
@@ -38,8 +31,8 @@ static void print_registers(const struct played *first, const struct played *sec
 {
     for (int word = H; word <= OC; word++)
         if (first->record[word] != second->record[word])
-            printf("%s\t%" PRIu64 "\t%" PRIu64 "\n", names[word], first->record[word],
-                   second->record[word]);
+            printf("%s\t%" PRIu64 "\t%" PRIu64 "\n", register_names[word],
+                   first->record[word], second->record[word]);
 }
 
 /* Gives whether the capture is good; of a bad one the refusal is printed, with the file's number. */

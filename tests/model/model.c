@@ -1,5 +1,6 @@
 #include "model.h"
 
+#include "bus.h"
 #include "words.h"
 
 #include <string.h>
@@ -9,13 +10,7 @@ enum { LAST_PAGE = 4 };
 /* In the command table only: the grey register that GR selects. */
 enum { GS = WORDS };
 
-enum phase { IDLE, ADDRESS, IGNORING, CONTROL, ONE_BYTE, ENDLESS, READING, READ_ENDED };
-
-enum event { START = 256, STOP, READ_ACK, READ_NACK, RESET_PULSE, SENSOR = 512 };
-
 enum refusal { BAD_MEMORY = 1, BAD_RECORD, BAD_EVENT, COUNT_FULL };
-
-enum answer { NOTHING = 256, ACK, NACK, TAKEN, UNKNOWN, OUT_OF_RANGE, BYTE_READ = 512 };
 
 /* The largest allowed value of each word but the count. */
 static const uint8_t limit[] = {

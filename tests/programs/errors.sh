@@ -115,14 +115,11 @@ mutant 'names of the header in another order' 's/second byte.tfirst event/first 
 mutant 'register h left out' 's/word = H;/word = H + 1;/'
 mutant 'register gr left out' 's/if (first->record/if (word != GR \&\& first->record/'
 mutant 'register oc left out' 's/word <= OC/word < OC/'
-mutant 'bsh called bs' 's/"bsh"/"bs"/'
-mutant 'mx and my exchanged' 's/"mx"/"m"/; s/"my"/"mx"/; s/"m"/"my"/'
-mutant 'gr in capitals' 's/"gr"/"GR"/'
 mutant 'registers from the last' 's/word = H; word <= OC; word++/word = OC; word >= H; word--/'
 mutant 'y before x' \
     's/int word = H; word <= OC; word++/int place = H, word; word = place == X ? Y : place == Y ? X : place, place <= OC; place++/'
 mutant 'register values exchanged' \
-    's/names\[word\], first->record/names[word], second->record/; s/^ *second->record\[word\]);/first->record[word]);/'
+    's/first->record\[word\], second->record\[word\]);/second->record[word], first->record[word]);/'
 mutant 'registers before the cells' 's/^    print_cells(&first/    print_registers(\&first/; t; s/^    print_registers(&first/    print_cells(\&first/'
 mutant 'registers left out where a cell differs' \
     's/^    print_registers(&first/    if (!__builtin_memcmp(first.memory, second.memory, PLACES)) &/'
@@ -130,7 +127,7 @@ mutant 'first register only' \
     's/^    for (int word/    bool told = false; &/; s/if (\(first->record.*\))/for (; \1 \&\& !told; told = true)/'
 for word in SA TR LAST_RS PHASE COUNT; do
     mutant "$word compared too" \
-        "s/\[OC\] = \"oc\"/&, [$word] = \"$word\"/; s/word <= OC; word++/word <= $word; word += word == OC ? $word - OC : 1/"
+        "s/register_names\[word\]/word > OC ? \"$word\" : &/; s/word <= OC; word++/word <= $word; word += word == OC ? $word - OC : 1/"
 done
 mutant 'second capture judged first' \
     's/!play(first_file, 1, &first) || !play(second_file, 2, &second)/!play(second_file, 2, \&second) || !play(first_file, 1, \&first)/'
@@ -141,6 +138,11 @@ mutant 'refusal without its file' 's/refused.t%u.t%" PRIu64 ".n", number,/refuse
 mutant 'refusal without its line' 's/refused.t%u.t%" PRIu64 ".n", number, bad_line/refused\\t%u\\n", number/'
 mutant 'first file twice' 's/argv\[2\]/argv[1]/'
 mutant 'files exchanged' 's/argv\[1\]/argv[3]/; s/argv\[2\]/argv[1]/; s/argv\[3\]/argv[2]/'
+
+model=names
+mutant 'bsh called bs' 's/"bsh"/"bs"/'
+mutant 'mx and my exchanged' 's/"mx"/"m"/; s/"my"/"mx"/; s/"m"/"my"/'
+mutant 'gr in capitals' 's/"gr"/"GR"/'
 
 model=capture
 mutant 'second capture played on the memory of the first' \

@@ -11,7 +11,7 @@ cc=${CC:-gcc}
 python=$(python3 -c 'import sys; print(sys.executable)')
 out=${TESTS_OUT:-target/tests}/mutants/programs
 flags='-std=c11 -Itests/model -O1 -w'
-programs='replay view draw compare search'
+programs='replay view draw compare search who state trace'
 
 # What the list of errors sets, and how many errors of it were met.
 model=
@@ -29,8 +29,10 @@ parts() {
     replay) echo replay capture program model ;;
     view) echo view capture program model glass ;;
     draw) echo draw program compile plain list model ;;
-    compare) echo compare capture program model ;;
+    compare) echo compare capture names program model ;;
     search) echo search program model ;;
+    who) echo who capture program model glass ;;
+    state | trace) echo "$1" capture names program model ;;
     esac
 }
 
@@ -58,7 +60,7 @@ holds() {
 build_model() {
     rm -rf "$out"
     mkdir -p "$out/objects" "$out/model" "$out/tried"
-    for part in $programs capture program compile plain list model glass; do
+    for part in $programs capture names program compile plain list model glass; do
         # shellcheck disable=SC2086
         "$cc" $flags -c "tests/model/$part.c" -o "$out/objects/$part.o"
     done
