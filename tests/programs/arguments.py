@@ -8,7 +8,8 @@ import texts
 
 CAPTURE = texts.capture(captures.GOOD)
 LIST = lists.LIT + b"put\t5\t2\t167\n"
-READERS = (["replay"], CAPTURE), (["view"], CAPTURE), (["draw", "1"], LIST)
+READERS = ((["replay"], CAPTURE), (["view"], CAPTURE), (["draw", "1"], LIST), (["who", "8", "5"], CAPTURE),
+           (["state"], CAPTURE), (["trace"], CAPTURE))
 
 
 def files(sides):
@@ -28,6 +29,8 @@ def large_files(sides):
     with tempfile.TemporaryDirectory() as directory:
         path = os.path.join(directory, "input")
         for words, data in ((["replay"], CAPTURE + b"257\n" * 100000), (["view"], CAPTURE * 3000),
+                            (["who", "8", "5"], CAPTURE + b"257\n" * 100000), (["state"], CAPTURE + b"257\n" * 100000),
+                            (["trace"], CAPTURE + b"257\n" * 20000),
                             (["draw", "2"], LIST * 500), (["draw", "2"], b"\n" * lists.MOST_BYTES),
                             (["draw", "2"], b"\n" * (lists.MOST_BYTES + 1))):
             with open(path, "wb") as file:
@@ -118,7 +121,8 @@ def wrong_calls(sides):
         with open(path, "wb") as file:
             file.write(LIST)
         for words in (["replay", path, path], ["view", path, path], ["draw"], ["draw", "0", path, path],
-                      ["replay", path, ""], ["view", "a", "b", "c"]):
+                      ["replay", path, ""], ["view", "a", "b", "c"], ["who", "8", "5", path, path],
+                      ["who", "8", "5", path, ""], ["state", path, path], ["trace", path, path], ["trace", path, ""]):
             sides.same(words, CAPTURE)
         for pins in ("4", "00", "01", "03", "", " 0", "0 ", "-1", "+1", "x", "0x1", "10", "255", "256",
                      "260", "4294967296", "18446744073709551616", "pins", path):

@@ -22,6 +22,9 @@ CASES = [
     (["draw", "1"], lists.LIT + b"put\t5\t2\t167\n" * 100), (["draw", "1"], b"no list\n"), (["draw", "--help"], b""),
     (["compare", "-", SAMPLE], CAPTURE), (["compare", SAMPLE, "-"], b""), (["compare", "--help"], b""),
     (["search"], b""), (["search", "--help"], b""),
+    (["who", "8", "5"], CAPTURE), (["who", "8", "5"], b""), (["who", "--help"], b""),
+    (["state"], CAPTURE), (["state"], b""), (["state", "--help"], b""),
+    (["trace"], CAPTURE), (["trace"], b""), (["trace", "--help"], b""),
 ]
 SECONDS = 60
 

@@ -1,10 +1,10 @@
-"""Holds the programs replay, draw, view, compare and search against the model's programs, byte by byte.
+"""Holds the programs of the bench crews against the model's programs, byte by byte.
 
     main.py [--status] PROGRAMS MODEL [quick GROUP...]
 
-PROGRAMS and MODEL are directories with the five programs. `--status` asks for a status that is not 0
+PROGRAMS and MODEL are directories with the programs. `--status` asks for a status that is not 0
 where a call fails. `quick` takes a sample of the cases, of these groups only: arguments, messages,
-captures, pairs, lists.
+captures, pairs, lists, pixels, states, traces.
 """
 import os
 import sys
@@ -14,11 +14,15 @@ import captures
 import lists
 import messages
 import pairs
+import pixels
+import states
+import traces
 from sides import Difference, Sides, report
 
 
 GROUPS = {"arguments": arguments.THEMES, "messages": messages.THEMES, "captures": captures.THEMES,
-          "pairs": pairs.THEMES, "lists": lists.THEMES}
+          "pairs": pairs.THEMES, "lists": lists.THEMES, "pixels": pixels.THEMES, "states": states.THEMES,
+          "traces": traces.THEMES}
 
 
 def compare(sides, groups):

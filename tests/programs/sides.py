@@ -72,6 +72,40 @@ def run_in_pieces(words, data, pieces):
     return finish(process, b"")
 
 
+def sleeps(process):
+    """Whether it waits for something, or has ended. One that has read all of its input waits for more."""
+    with open(f"/proc/{process.pid}/stat", "rb") as file:
+        return file.read().rpartition(b") ")[2][:1] in b"SZ"
+
+
+def wait_until_done(process):
+    """Until the program has read all that was written to it and does nothing more, or has ended."""
+    wait_until_read(process)
+    until = time.monotonic() + SECONDS
+    while process.poll() is None and not sleeps(process) and time.monotonic() < until:
+        time.sleep(0.0001)
+
+
+def run_kept_open(words, steps):
+    """STEPS are pieces of the input and what is to be printed for each before the next one comes. Gives the first of
+    them for which something else is printed, with what that is; None if there is none."""
+    process = begin(words)
+    os.set_blocking(process.stdout.fileno(), False)
+    try:
+        for piece, printed in steps:
+            os.write(process.stdin.fileno(), piece)
+            wait_until_done(process)
+            output = process.stdout.read() or b""
+            if output != printed:
+                return piece, output
+    except BrokenPipeError:
+        return piece, b""
+    finally:
+        process.kill()
+        process.communicate()
+    return None
+
+
 def run_piped(first, second, data):
     """FIRST | SECOND: what SECOND leaves."""
     source = begin(first)
@@ -199,6 +233,15 @@ class Sides:
                 for words in (first, second)]
         return self.judge(second[0], " ".join(first) + " | " + " ".join(second), [data],
                           run_piped(both[0], both[1], data), run_piped(both[2], both[3], data))
+
+    def as_it_comes(self, words, steps):
+        """Each piece of the input is answered at once: STEPS are pieces and what is to be printed for each."""
+        for directory in (self.programs, self.model):
+            wrong = run_kept_open(self.words(directory, words), steps)
+            if wrong:
+                raise Difference(f"{self.theme}: {' '.join(words)}: {shown(wrong[1])} is printed when {shown(wrong[0])} "
+                                 f"has come, and the input goes on")
+        self.compared += 1
 
     def sample(self, cases, count):
         """All cases, or some of them, evenly spread, when it has to be quick."""
