@@ -3,7 +3,7 @@
 # they must pass, and with one error put into a copy of a source at a time, when they must not. Run from
 # the project's root.
 #
-# The errors stand in tests/programs/errors.sh. As many are tried at a time as there are cores.
+# The errors stand in tests/programs/errors.sh and errors_told.sh. As many are tried at a time as there are cores.
 set -eu
 
 cc=${CC:-gcc}
@@ -116,6 +116,8 @@ work() {
     unchanged
     # shellcheck source=tests/programs/errors.sh
     . tests/programs/errors.sh
+    # shellcheck source=tests/programs/errors_told.sh
+    . tests/programs/errors_told.sh
     echo "$mutants" >"$out/mutants"
 }
 

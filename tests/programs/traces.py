@@ -207,11 +207,11 @@ def cuts(sides):
 def long_captures(sides):
     """Ends and bad lines around the sizes that a buffer may have."""
     data = texts.random_capture(random.Random(42), 3000)
-    for size in (512, 1024, 4096, 8192, 16384, 32768, 65536, 131072):
+    for size in (512, 1024, 4096, 8192, 16384, 65536):
         for end in sides.sample(range(size - 2, size + 3), 2):
             sides.same(TRACE, data[:end].rpartition(b"\n")[0] + b"\n")
             sides.same(TRACE, data[:end] + b"x" + data[end:])
-    for lines in (254, 255, 256, 4095, 4096, 65534, 65535, 65536, 70000):
+    for lines in (255, 256, 4096, 65535, 65536):
         sides.same(TRACE, b"pins\t0\n" + b"7\n" * lines + b"261\n")
 
 
