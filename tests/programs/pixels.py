@@ -42,8 +42,8 @@ def known(sides):
         exactly(sides, put, row, 5, "dark", row, 2, 5, 207, 167, value, 10, 11)
         for mode, level in ("00", 10), ("01", 64), ("10", [10, 20, 41, 64][value]), ("11", [64, 41, 20, 10][value]):
             exactly(sides, texts.capture(PUT + lit(mode)), row, 5, f"level {level}", row, 2, 5, 207, 167, value, 10, 11)
-        exactly(sides, texts.capture(PUT + lit(mirror=0x0A)), 66 - row, 5, f"level {[10, 20, 41, 64][value]}", row, 2, 5,
-                207, 167, value, 10, 11)
+        exactly(sides, texts.capture(PUT + lit(mirror=0x0A)), 66 - row, 5, f"level {[10, 20, 41, 64][value]}",
+                row, 2, 5, 207, 167, value, 10, 11)
         exactly(sides, texts.capture(PUT + lit() + [RESET]), row, 5, "dark", row, 2, 5, 207, 167, value, 10, 11)
     exactly(sides, put, 7, 5, "dark", 7, 1, 5, 106, 0, 0, 0, 0)
     exactly(sides, put, 8, 6, "dark", 8, 2, 6, 208, 0, 0, 0, 0)
@@ -97,23 +97,24 @@ def refusals(sides):
 # ---- Wrong calls ----
 
 NO_NUMBERS = ["", " ", "-1", "+1", "01", "00", "007", "0x1", "1.0", "1e1", " 1", "1 ", "1,", "a", "1a", "a1", ":",
-              "/", "1000", "0000", "256", "257", "300", "323", "357", "512", "999", "65536", "65541", "4294967296", "4294967301",
-              "18446744073709551616", "18446744073709551621", "row", "-", "\u0661"]
+              "/", "1000", "0000", "256", "257", "300", "323", "357", "512", "999", "65536", "65541", "4294967296",
+              "4294967301", "18446744073709551616", "18446744073709551621", "row", "-", "\u0661"]
 
 
 def wrong_calls(sides):
     """Off the glass, no numbers, too few words or too many; then the capture does not matter."""
     data = texts.capture(PUT)
-    for word in ["67", "68", "100"] + NO_NUMBERS:
-        sides.same(["who", word, "5"], data)
-    for word in ["101", "102"] + NO_NUMBERS:
-        sides.same(["who", "8", word], data)
-    for words in ([], ["8"], ["8", "5", "a", "b"], ["67", "101"], ["101", "66"], ["5", "8", ""], ["67", "5", "/dev/null"],
-                  ["/dev/stdin", "8", "5"]):
+    for words in ([], ["8"], ["8", "5", "a", "b"], ["67", "101"], ["101", "66"], ["5", "8", ""],
+                  ["67", "5", "/dev/null"], ["/dev/stdin", "8", "5"]):
         sides.same(["who"] + words, data)
-    sides.same(["who", "67", "0"], b"")
     for row, column in (66, 100), (66, 0), (0, 100), (10, 10), (9, 99):
         who(sides, row, column, data)
+        who(sides, row, 101 + column, data)
+        who(sides, 67 + row, column, data)
+    for word in NO_NUMBERS:
+        sides.same(["who", word, "5"], data)
+        sides.same(["who", "8", word], data)
+    sides.same(["who", "67", "0"], b"")
 
 
 # ---- Against the model ----
@@ -172,4 +173,4 @@ def random_pixels(sides):
 
 
 # Those that find an error with few comparisons come first.
-THEMES = [known, mirrored, events, driven, refusals, every_row, wrong_calls, random_pixels, bad_lines, pieces]
+THEMES = [known, refusals, mirrored, wrong_calls, events, driven, every_row, random_pixels, bad_lines, pieces]

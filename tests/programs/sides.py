@@ -239,8 +239,8 @@ class Sides:
         for directory in (self.programs, self.model):
             wrong = run_kept_open(self.words(directory, words), steps)
             if wrong:
-                raise Difference(f"{self.theme}: {' '.join(words)}: {shown(wrong[1])} is printed when {shown(wrong[0])} "
-                                 f"has come, and the input goes on")
+                raise Difference(f"{self.theme}: {' '.join(words)}: {shown(wrong[1])} is printed when "
+                                 f"{shown(wrong[0])} has come, and the input goes on")
         self.compared += 1
 
     def sample(self, cases, count):

@@ -44,7 +44,8 @@ PHASES = [
     ("address awaited", [START], 0, 0, 0), ("address awaited", [START, 0x78, 0x40, START], 1, 2, 0),
     ("ignoring", [START, 0x7A], 0, 0, 1), ("ignoring", [START, 0x00, 0x78, 0x80], 0, 0, 3),
     ("ignoring", [START, 0x79, 5], 0, 1, 1), ("ignoring", [START, 0x79, READ_NACK, 5, 6], 0, 1, 2),
-    ("control byte awaited", [START, 0x78], 0, 1, 0), ("control byte awaited", [START, 0x78, 0xC0, 0, 0x80, 0], 0, 5, 0),
+    ("control byte awaited", [START, 0x78], 0, 1, 0),
+    ("control byte awaited", [START, 0x78, 0xC0, 0, 0x80, 0], 0, 5, 0),
     ("one command awaited", [START, 0x78, 0x80], 0, 2, 0), ("one display byte awaited", [START, 0x78, 0xFF], 1, 2, 0),
     ("endless commands", [START, 0x78, 0x3F, 0, 0], 0, 4, 0), ("endless display bytes", [START, 0x78, 0x40], 1, 2, 0),
     ("reading", [START, 0x79], 0, 1, 0), ("reading", [START, 0x79, READ_ACK, READ_ACK], 0, 1, 0),
@@ -60,7 +61,7 @@ def phases(sides):
 
 
 def answers(sides):
-    """A command byte is acknowledged whether it is taken, unknown or out of range; what is read is no byte from the master."""
+    """A command byte is acknowledged whether it is taken or not; a byte that is read is none from the master."""
     head = [START, 0x78, 0x00]
     exactly(sides, head + [0x00, 0x01, 0xE5, 0x51, 0x0D, 0x04, 0x7F], phase="endless commands", acknowledged=9)
     exactly(sides, head + list(range(2, 8)) * 50, phase="endless commands", acknowledged=302)
@@ -144,5 +145,5 @@ def random_captures(sides):
 
 
 # Those that find an error with few comparisons come first.
-THEMES = [known, phases, answers, status, single_registers, refusals, samples, every_command, random_captures, bad_lines,
-          long_captures, cuts]
+THEMES = [known, refusals, phases, answers, status, single_registers, samples, every_command, random_captures,
+          bad_lines, long_captures, cuts]

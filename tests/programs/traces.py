@@ -74,7 +74,7 @@ def command(byte, words, answer="taken"):
 
 
 def rows_of_the_table(sides):
-    """Every row, in its page and with its fields from the high end; the first and last numbers in range and out of it."""
+    """Every row, in its page and with its fields from the high end; numbers in range, and out of it."""
     rows = WRITE + [ENDLESS, command(0x0B, "h 3"), command(0x42, "gr 2"), command(0x01, "page return")]
     for page, byte, words, answer in COMMANDS:
         rows += [command(0x08 | page, f"h {page}"), command(byte, words, answer)]
@@ -134,9 +134,10 @@ def kept_open(sides):
     steps = [(b"pins\t0\n", b"")]
     steps += [(b"%d\n" % row[0], printed([row], i + 1)) for i, row in enumerate(rows)]
     steps += [(b"128\n133\n12", printed(MARKED[4:6], 5)), (b"8", b""), (b"\n", printed(MARKED[6:7], 7)), (b"6", b"")]
-    sides.as_it_comes(TRACE, steps + [(b"6\n64\n167\n25", printed(MARKED[7:10], 8)), (b"7\n", printed(MARKED[10:], 11))])
+    ends = [(b"6\n64\n167\n25", printed(MARKED[7:10], 8)), (b"7\n", printed(MARKED[10:], 11))]
+    sides.as_it_comes(TRACE, steps + ends)
     sides.as_it_comes(TRACE, steps + [(b"6\n261\n", printed(MARKED[7:8], 8) + b"refused\t10\n")])
-    many = [STOP_LINE] * 20000
+    many = [STOP_LINE] * 65540
     sides.as_it_comes(TRACE, [(b"pins\t3\n", b"")] + [(b"257\n", printed([STOP_LINE], i + 1)) for i in range(5)])
     sides.exactly(TRACE, texts.capture([row[0] for row in many]), printed(many))
 
