@@ -1,7 +1,10 @@
 """What is printed of the captures that generate.c makes, by arithmetic alone.
 
-    expected.py EVENTS          the listing of the capture of this many events
-    expected.py EVENTS OTHER    the comparison of the captures of this many events
+    expected.py listing EVENTS          the listing of the capture of this many events
+    expected.py comparison EVENTS OTHER the comparison of the captures of this many events
+    expected.py state EVENTS            the chip after it
+    expected.py pixel EVENTS            the last row and column of the glass after it
+    expected.py line EVENTS             the last line of its trace
 """
 import sys
 
@@ -50,7 +53,29 @@ def comparison(events, other):
             print(name, value, address(other)[name], sep="\t")
 
 
-if len(sys.argv) == 2:
-    listing(int(sys.argv[1]))
-else:
-    comparison(int(sys.argv[1]), int(sys.argv[2]))
+def state(events):
+    """Registers are as after reset, but for the address; each event but START is a byte that is acknowledged."""
+    names = "h do pd v d e mx my ps x y bs bsh dp prs hve s tc sm vop gr gs0 gs1 gs2 gs3 dof dm ec oc".split()
+    held = dict.fromkeys(names, 0) | {"pd": 1, "dof": 1} | address(events)
+    held |= {"pins": 0, "status": 0, "last rs": 1, "phase": "endless display bytes", "count": events,
+             "acknowledged": events - 1, "not acknowledged": 0}
+    for name, value in held.items():
+        print(name, value, sep="\t")
+
+
+def pixel(events):
+    column, bank, byte, writer = list(cells(events))[-1]
+    told = {"row": 66, "column": column, "shows": "dark", "ram row": 66, "bank": bank, "cell column": column,
+            "place": PLACES - 1, "byte": byte, "value": byte // 16 % 4, "event": writer,
+            "line": writer + 1 if writer else 0}
+    for name, value in told.items():
+        print(name, value, sep="\t")
+
+
+def line(events):
+    column, bank, byte, _ = next(cell for cell in cells(events) if cell[3] == events)
+    print(events, events % 100, f"display {column} {bank} {byte}", "acknowledged", sep="\t")
+
+
+PRINTED = {"listing": listing, "comparison": comparison, "state": state, "pixel": pixel, "line": line}
+PRINTED[sys.argv[1]](*map(int, sys.argv[2:]))
