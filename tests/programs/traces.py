@@ -4,6 +4,7 @@ import os
 import random
 
 import captures
+import lists
 import texts
 from texts import READ_ACK, READ_NACK, RESET, SENSOR, START, STOP
 
@@ -124,6 +125,8 @@ def refusals(sides):
     for bad in (b"261\n", b"01\n", b"\n", b"256", b"999\n120\n", b"1000\n", b"25 6\n257\n"):
         exactly(sides, MARKED, behind=bad, refusal=b"refused\t13\n")
         exactly(sides, [], behind=bad, refusal=b"refused\t2\n")
+    for before in range(len(MARKED)):
+        exactly(sides, MARKED[:before], behind=b"120 \n256\n", refusal=b"refused\t%d\n" % (before + 2))
     for first in (b"", b"pins\t4\n256\n", b"256\n120\n", b"pins\t0"):
         sides.exactly(TRACE, first, b"refused\t1\n")
 
@@ -180,8 +183,11 @@ def cells(sides):
 
 
 def samples(sides):
+    """The captures of samples/, and one that is drawn and piped on."""
     for path in sorted(glob.glob(SAMPLES)):
         sides.same(TRACE + [path])
+    sides.same_piped(["draw", "2"], TRACE, lists.LIT + b"put\t5\t2\t167\nfill\t99\t100\t15\t16\t63\n")
+    sides.same_piped(["draw", "2"], TRACE, b"put\t5\t2\n")
 
 
 def bad_lines(sides):
