@@ -4,11 +4,12 @@
 
 PROGRAMS and MODEL are directories with the programs. `--status` asks for a status that is not 0
 where a call fails. `quick` takes a sample of the cases, of these groups only: arguments, messages,
-captures, pairs, lists, pixels, states, traces.
+captures, pairs, lists, pixels, states, traces, agreement.
 """
 import os
 import sys
 
+import agreement
 import arguments
 import captures
 import lists
@@ -22,7 +23,7 @@ from sides import Difference, Sides, report
 
 GROUPS = {"arguments": arguments.THEMES, "messages": messages.THEMES, "captures": captures.THEMES,
           "pairs": pairs.THEMES, "lists": lists.THEMES, "pixels": pixels.THEMES, "states": states.THEMES,
-          "traces": traces.THEMES}
+          "traces": traces.THEMES, "agreement": agreement.THEMES}
 
 
 def compare(sides, groups):

@@ -145,6 +145,13 @@ def every_row(sides):
                 sides.same(["who", str((column * 23 + i) % ROWS), str(column), path])
 
 
+def samples(sides):
+    source = random.Random(53)
+    for path in texts.sample_captures():
+        for _ in range(4):
+            sides.same(["who", str(source.randrange(ROWS)), str(source.randrange(COLUMNS)), path])
+
+
 def bad_lines(sides):
     good = texts.capture(captures.GOOD)
     for first in sides.sample(captures.PINS_LINES, 8):
@@ -173,4 +180,4 @@ def random_pixels(sides):
 
 
 # Those that find an error with few comparisons come first.
-THEMES = [known, refusals, mirrored, wrong_calls, events, driven, every_row, random_pixels, bad_lines, pieces]
+THEMES = [known, refusals, mirrored, wrong_calls, events, driven, every_row, samples, random_pixels, bad_lines, pieces]

@@ -1,6 +1,4 @@
 """Themes of `state`: the chip at the end of a capture, and how many bytes were acknowledged."""
-import glob
-import os
 import random
 
 import captures
@@ -9,7 +7,6 @@ import texts
 from texts import READ_ACK, READ_NACK, RESET, SENSOR, START, STOP
 
 STATE = ["state"]
-SAMPLES = os.path.join(os.path.dirname(os.path.abspath(__file__)), "../../samples/*.capture")
 
 # Behind the registers, after reset and no event.
 REST = {"pins": 0, "status": 0, "last rs": 0, "phase": "idle", "count": 0, "acknowledged": 0, "not acknowledged": 0}
@@ -97,7 +94,7 @@ def refusals(sides):
 # ---- Against the model ----
 
 def samples(sides):
-    for path in sorted(glob.glob(SAMPLES)):
+    for path in texts.sample_captures():
         sides.same(STATE + [path])
 
 

@@ -1,4 +1,6 @@
 """Captures and drawing lists, good ones at random and damaged ones."""
+import glob
+import os
 
 START, STOP, READ_ACK, READ_NACK, RESET, SENSOR = 256, 257, 258, 259, 260, 512
 COLUMNS, BANKS = 101, 17
@@ -9,6 +11,13 @@ FIELDS = [
     ("bsh", 1), ("dp", 3), ("prs", 1), ("hve", 1), ("s", 3), ("tc", 3), ("sm", 1), ("vop", 7),
     ("dof", 1), ("dm", 1), ("ec", 1), ("oc", 1), ("gs0", 6), ("gs1", 6), ("gs2", 6), ("gs3", 6),
 ]
+
+
+SAMPLES = os.path.join(os.path.dirname(os.path.abspath(__file__)), "../../samples")
+
+
+def sample_captures():
+    return sorted(glob.glob(os.path.join(SAMPLES, "*.capture")))
 
 
 def capture(events, pins=0):

@@ -1,6 +1,4 @@
 """Themes of `trace`: each event in words, and its answer; lines that come before the input ends."""
-import glob
-import os
 import random
 
 import captures
@@ -9,7 +7,6 @@ import texts
 from texts import READ_ACK, READ_NACK, RESET, SENSOR, START, STOP
 
 TRACE = ["trace"]
-SAMPLES = os.path.join(os.path.dirname(os.path.abspath(__file__)), "../../samples/*.capture")
 
 ACK, NACK = "acknowledged", "not acknowledged"
 START_LINE, STOP_LINE = (START, "start", "-"), (STOP, "stop", "-")
@@ -184,7 +181,7 @@ def cells(sides):
 
 def samples(sides):
     """The captures of samples/, and one that is drawn and piped on."""
-    for path in sorted(glob.glob(SAMPLES)):
+    for path in texts.sample_captures():
         sides.same(TRACE + [path])
     sides.same_piped(["draw", "2"], TRACE, lists.LIT + b"put\t5\t2\t167\nfill\t99\t100\t15\t16\t63\n")
     sides.same_piped(["draw", "2"], TRACE, b"put\t5\t2\n")
