@@ -53,8 +53,7 @@ static void print_state(const uint64_t *record)
 int main(int argc, char **argv)
 {
     static struct played played;
-    if (argc > 2)
-        give_up("state", "usage: state [CAPTURE]");
+    check_words(argc, argv, "state", 1, 2, "state [CAPTURE]");
     FILE *file = open_input("state", argc == 2 ? argv[1] : NULL);
     uint64_t bad_line = play_events(file, &played, count_answer);
     check_input("state", file);

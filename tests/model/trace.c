@@ -148,8 +148,7 @@ static void print_line(const uint64_t *before, const struct played *after, unsig
 int main(int argc, char **argv)
 {
     static struct played played;
-    if (argc > 2)
-        give_up("trace", "usage: trace [CAPTURE]");
+    check_words(argc, argv, "trace", 1, 2, "trace [CAPTURE]");
     FILE *file = open_input("trace", argc == 2 ? argv[1] : NULL);
     setvbuf(stdout, NULL, _IOLBF, BUFSIZ);
     uint64_t bad_line = play_events(file, &played, print_line);

@@ -7,19 +7,21 @@
 #include <inttypes.h>
 #include <string.h>
 
+#define USAGE "who ROW COLUMN [CAPTURE]"
+
 enum { ROWS = 67, ROWS_OF_A_BANK = 4, DARK = 256, UNDRIVEN = 257, LEVEL = 512, PLACE = 512 };
 
 /* A number as in lists and captures: 1 to 3 digits, and none begins with 0 but 0 itself. */
-static unsigned number_of(const char *what, const char *word, unsigned most)
+static unsigned number_of(const char *word, unsigned most, const char *fault)
 {
     size_t digits = strspn(word, "0123456789");
     if (digits == 0 || digits > 3 || word[digits] != '\0' || (word[0] == '0' && digits > 1))
-        give_up("who", "the %s is a number from 0 to %u, not %s", what, most, word);
+        wrong_call("who", fault, USAGE);
     unsigned number = 0;
     for (size_t i = 0; i < digits; i++)
         number = 10 * number + (unsigned)(word[i] - '0');
     if (number > most)
-        give_up("who", "the %s is a number from 0 to %u, not %s", what, most, word);
+        wrong_call("who", fault, USAGE);
     return number;
 }
 
@@ -61,10 +63,9 @@ static void print_pixel(const struct played *played, unsigned row, unsigned colu
 int main(int argc, char **argv)
 {
     static struct played played;
-    if (argc < 3 || argc > 4)
-        give_up("who", "usage: who ROW COLUMN [CAPTURE]");
-    unsigned row = number_of("row", argv[1], ROWS - 1);
-    unsigned column = number_of("column", argv[2], COLUMNS - 1);
+    check_words(argc, argv, "who", 3, 4, USAGE);
+    unsigned row = number_of(argv[1], ROWS - 1, "ROW is not a number from 0 to 66");
+    unsigned column = number_of(argv[2], COLUMNS - 1, "COLUMN is not a number from 0 to 100");
     FILE *file = open_input("who", argc == 4 ? argv[3] : NULL);
     uint64_t bad_line = play_capture(file, &played);
     check_input("who", file);

@@ -45,7 +45,7 @@ mutant 'numbers of 8 bits' 's/unsigned number = 0;/uint8_t number = 0;/'
 mutant 'leading zero taken' "s/ || (word\[0\] == '0' && digits > 1)//"
 mutant 'letters behind a number taken' "s/ || word\[digits\] != '.0'//"
 mutant 'no digits taken for 0' "s/digits == 0 || //"
-mutant 'row alone asked for' 's/argc < 3/argc < 2/; s/argv\[2\], COLUMNS/argc < 3 ? "0" : &/'
+mutant 'row alone asked for' 's/"who", 3, 4,/"who", 2, 4,/; s/argv\[2\], COLUMNS/argc < 3 ? "0" : &/'
 
 model=glass
 mutant '63 shown as 63' 's/held == 63 ? 64 : held/held/'
@@ -191,16 +191,23 @@ mutant 'counter that never moves on' 's/^    \*second = .*/    (void)second_last
 
 groups=arguments
 model=who
-mutant 'words behind the capture passed over' 's/argc > 4/0/'
+mutant 'words behind the capture passed over' 's/"who", 3, 4,/"who", 3, 9,/'
 mutant 'file not read' 's/argc == 4 ? argv\[3\] : NULL/NULL/'
 mutant 'directory taken for an empty capture' 's/^    check_input.*//'
 
 model=state
-mutant 'words behind the capture passed over' 's/if (argc > 2)/if (0)/'
+mutant 'words behind the capture passed over' 's/"state", 1, 2,/"state", 1, 9,/'
 mutant 'file not read' 's/argc == 2 ? argv\[1\] : NULL/NULL/'
 mutant 'directory taken for an empty capture' 's/^    check_input.*//'
 
 model=trace
-mutant 'words behind the capture passed over' 's/if (argc > 2)/if (0)/'
+mutant 'words behind the capture passed over' 's/"trace", 1, 2,/"trace", 1, 9,/'
 mutant 'file not read' 's/argc == 2 ? argv\[1\] : NULL/NULL/'
 mutant 'directory taken for an empty capture' 's/^    check_input.*//'
+
+groups=messages
+model=who
+mutant 'column judged first' \
+    's/^    unsigned row = \(.*\)/    unsigned column = number_of(argv[2], 100, "COLUMN is not a number from 0 to 100"); unsigned row = \1/; t; s/^    unsigned column = .*//'
+mutant 'row called column' 's/"ROW is not a number from 0 to 66"/"COLUMN is not a number from 0 to 100"/'
+mutant 'wrong row told without the usage' 's/wrong_call("who", fault, USAGE)/give_up("who", "%s", fault)/'

@@ -19,10 +19,13 @@ USAGES = {
     "draw": b"draw PINS [LIST]",
     "compare": b"compare FIRST SECOND",
     "search": b"search",
+    "who": b"who ROW COLUMN [CAPTURE]",
+    "state": b"state [CAPTURE]",
+    "trace": b"trace [CAPTURE]",
 }
 
 # The words before the input's name.
-READERS = ["replay"], ["view"], ["draw", "2"]
+READERS = ["replay"], ["view"], ["draw", "2"], ["who", "8", "5"], ["state"], ["trace"]
 
 MOST_PATH = 4095
 
@@ -98,6 +101,16 @@ def pins(sides):
         sides.says(["draw", word, "missing"], wrong_call("draw", b"PINS is not 0, 1, 2 or 3"))
 
 
+def pixels(sides):
+    """The row is judged first; where it or the column is wrong, the file is not looked at."""
+    row, column = b"ROW is not a number from 0 to 66", b"COLUMN is not a number from 0 to 100"
+    for word in ("101", "256", "00", "", "-1", " 0", "-", "x" * 5000):
+        sides.says(["who", word, "5"], wrong_call("who", row), CAPTURE)
+        sides.says(["who", "8", word, "missing"], wrong_call("who", column))
+        sides.says(["who", word, word, "missing"], wrong_call("who", row))
+    sides.says(["who", "67", "100"], wrong_call("who", row), CAPTURE)
+
+
 # ---- Files ----
 
 def unopened(sides):
@@ -152,7 +165,7 @@ def unread(sides):
 
 def refused_captures(sides):
     """A bad capture is told by the one line on standard output."""
-    for words in (["replay"], ["view"]):
+    for words in (["replay"], ["view"], ["who", "66", "100"], ["state"], ["trace"]):
         sides.says(words, b"", b"pins\t0\n261\n", b"refused\t2\n")
     sides.says(["compare", "-", "/dev/null"], b"", CAPTURE, b"refused\t2\t1\n")
 
@@ -181,5 +194,5 @@ def long_lists(sides):
     sides.says(["draw", "0"], message("draw", b"standard input", b"longer than 1048576 bytes"), text)
 
 
-THEMES = [helps, help_among_others, wrong_numbers_of_words, two_inputs, pins, unopened, long_names, odd_names,
+THEMES = [helps, help_among_others, wrong_numbers_of_words, two_inputs, pins, pixels, unopened, long_names, odd_names,
           unread, refused_captures, refused_lists, long_lists]
