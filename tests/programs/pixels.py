@@ -161,9 +161,11 @@ def bad_lines(sides):
         who(sides, 66, 100, good + bad)
 
 
-def pieces(sides):
+def cuts(sides):
+    """A capture that ends at any place, and one that comes in two pieces or byte by byte."""
     for data in captures.SMALL:
         for at in sides.sample(range(1, len(data)), 2):
+            who(sides, 8, 5, data[:at])
             sides.same_in_pieces(["who", "8", "5"], data, lambda whole: (whole[:at], whole[at:]))
         sides.same_in_pieces(["who", "9", "5"], data, lambda whole: [whole[k:k + 1] for k in range(len(whole))])
 
@@ -180,4 +182,4 @@ def random_pixels(sides):
 
 
 # Those that find an error with few comparisons come first.
-THEMES = [known, refusals, mirrored, wrong_calls, events, driven, every_row, samples, random_pixels, bad_lines, pieces]
+THEMES = [known, refusals, mirrored, wrong_calls, events, driven, every_row, samples, random_pixels, bad_lines, cuts]

@@ -115,12 +115,13 @@ def bad_lines(sides):
 
 
 def cuts(sides):
-    """The state after each event of a capture; captures that come in two pieces, or byte by byte."""
+    """The state after each event of a capture; captures that end at any place, and such as come in pieces."""
     events = texts.random_events(random.Random(61), 2, 4)
     for length in sides.sample(range(min(len(events), 120)), 10):
         sides.same(STATE, texts.capture(events[:length], 2))
     for data in captures.SMALL:
         for at in sides.sample(range(1, len(data)), 2):
+            sides.same(STATE, data[:at])
             sides.same_in_pieces(STATE, data, lambda whole: (whole[:at], whole[at:]))
         sides.same_in_pieces(STATE, data, lambda whole: [whole[k:k + 1] for k in range(len(whole))])
 
