@@ -12,16 +12,10 @@
 #include <stdlib.h>
 #include <string.h>
 
-enum { WORDS = 35, PLACES = 1717, MOST_EVENTS = 1000 };
+enum { WORDS = PCF8820_RECORD_WORDS, PLACES = PCF8820_PLACES, MOST_EVENTS = 1000 };
 
-enum { COLUMNS = 101, FRAMES = 4, MOST_PULSE = 16 };
-
-enum { DARK = 256, UNDRIVEN = 257 };
-
-enum { START = 256, STOP = 257 };
-
-/* What a step gives: a refusal below ACCEPTED, and for a command byte one of the other three. */
-enum { ACCEPTED = 256, TAKEN = 259, UNKNOWN = 260, OUT_OF_RANGE = 261 };
+/* The least number that is no refusal, of the calls that give more than whether they were done. */
+enum { ACCEPTED = PCF8820_ANSWER_NONE };
 
 /* All that a chip is made of. The host lends it to each call. */
 static uint64_t record[WORDS];
@@ -44,15 +38,25 @@ static const char drawing[] =
     "put\t13\t1\t27\n";
 
 /* What a terminal sends: X 101, which is no column, X 100, and a byte of no command of page 0. */
-static const uint16_t message[] = { START, 0x78, 0x80, 0xE5, 0x80, 0xE4, 0x80, 0x02, STOP };
+static const uint16_t message[] = {
+    PCF8820_EVENT_START, 0x78, 0x80, 0xE5, 0x80, 0xE4, 0x80, 0x02, PCF8820_EVENT_STOP
+};
 
 /* Anything but 0 is a refusal. */
 static void must(const char *call, uint64_t result)
 {
-    if (result == 0)
+    if (result == PCF8820_DONE)
         return;
     fprintf(stderr, "%s: refused by %llu\n", call, (unsigned long long)result);
     exit(1);
+}
+
+/* The same for the calls whose answers begin at 256: what is below that is a refusal. */
+static uint64_t accepted(const char *call, uint64_t answer)
+{
+    if (answer < ACCEPTED)
+        must(call, answer);
+    return answer;
 }
 
 /* A drawing list becomes bus events for the chip as it stands. */
@@ -63,6 +67,8 @@ static uint64_t compile(void)
                                       events, MOST_EVENTS, &length, &clocks, &line);
     if (line != 0)
         fprintf(stderr, "line %llu of the drawing is bad\n", (unsigned long long)line);
+    if (result == PCF8820_REFUSED_SHORT_OUTPUT)
+        fprintf(stderr, "the drawing needs %llu events\n", (unsigned long long)length);
     must("compile", result);
     printf("%llu events, %llu clocks\n", (unsigned long long)length, (unsigned long long)clocks);
     return length;
@@ -78,13 +84,13 @@ static void play(uint64_t length)
            (unsigned long long)unknown, (unsigned long long)out_of_range);
 }
 
-/* 256 is dark, 257 undriven, 512 and above a level of 0 to 62, or 64. */
+/* Dark, undriven, or a level of 0 to 62, or 64. */
 static char shown(uint64_t row, uint64_t column)
 {
-    uint64_t pixel = pcf8820_glass(record, WORDS, memory, PLACES, row, column);
-    if (pixel < 512)
+    uint64_t pixel = accepted("glass", pcf8820_glass(record, WORDS, memory, PLACES, row, column));
+    if (pixel < PCF8820_GLASS_LEVEL)
         return '?';
-    return " .:+#"[(pixel - 512 + 15) / 16];
+    return " .:+#"[(pixel - PCF8820_GLASS_LEVEL + 15) / 16];
 }
 
 static void print_corner(uint64_t rows, uint64_t columns)
@@ -99,28 +105,28 @@ static void print_corner(uint64_t rows, uint64_t columns)
 /* The first event since the chip's reset has the number 1; 0 stands for none. */
 static void print_writer(uint64_t row, uint64_t column)
 {
-    uint64_t place = pcf8820_place(record, WORDS, row, column) - 512;
+    uint64_t answer = accepted("place", pcf8820_place(record, WORDS, row, column));
+    uint64_t place = answer - PCF8820_GLASS_PLACE;
     uint64_t writer = writers[place];
     printf("row %llu, column %llu: ", (unsigned long long)row, (unsigned long long)column);
     if (writer == 0)
         printf("never written\n");
     else
-        printf("event %llu, byte %u\n", (unsigned long long)writer, events[writer - 1]);
+        printf("event %llu, byte %u\n", (unsigned long long)writer, memory[place]);
 }
 
-/* A number below 2^32 says why there are no pulses. */
+/* A number below PCF8820_PULSES says why there are none. */
 static void print_pulses(uint64_t row, uint64_t column)
 {
-    uint64_t pulses = pcf8820_pulses(record, WORDS, memory, PLACES, row, column);
-    if (pulses < DARK)
-        must("pulses", pulses);
+    uint64_t pulses = accepted("pulses",
+                               pcf8820_pulses(record, WORDS, memory, PLACES, row, column));
     printf("row %llu, column %llu: ", (unsigned long long)row, (unsigned long long)column);
-    if (pulses == DARK || pulses == UNDRIVEN) {
-        printf("%s\n", pulses == DARK ? "dark" : "undriven");
+    if (pulses < PCF8820_PULSES) {
+        printf("%s\n", pulses == PCF8820_GLASS_DARK ? "dark" : "undriven");
         return;
     }
     printf("pulses");
-    for (int frame = 0; frame < FRAMES; frame++)
+    for (int frame = 0; frame < PCF8820_FRAMES; frame++)
         printf(" %u", (unsigned)(pulses >> 8 * frame & 255));
     printf("\n");
 }
@@ -128,13 +134,13 @@ static void print_pulses(uint64_t row, uint64_t column)
 /* How wide all pulses of a row are together, frame by frame. Pixels that get none have 254 or 255. */
 static void print_frames(uint64_t row)
 {
-    uint8_t pulses[COLUMNS * FRAMES];
-    unsigned sums[FRAMES] = { 0 };
+    uint8_t pulses[PCF8820_ROW_PULSES];
+    unsigned sums[PCF8820_FRAMES] = { 0 };
     must("pulse_row",
          pcf8820_pulse_row(record, WORDS, memory, PLACES, row, pulses, sizeof pulses));
     for (size_t i = 0; i < sizeof pulses; i++)
-        if (pulses[i] <= MOST_PULSE)
-            sums[i % FRAMES] += pulses[i];
+        if (pulses[i] <= PCF8820_MOST_PULSE)
+            sums[i % PCF8820_FRAMES] += pulses[i];
     printf("row %llu: pulses %u %u %u %u\n", (unsigned long long)row, sums[0], sums[1], sums[2],
            sums[3]);
 }
@@ -142,9 +148,9 @@ static void print_frames(uint64_t row)
 static const char *told(uint64_t answer)
 {
     switch (answer) {
-    case TAKEN: return "taken";
-    case UNKNOWN: return "unknown in this page";
-    case OUT_OF_RANGE: return "out of range";
+    case PCF8820_ANSWER_TAKEN: return "taken";
+    case PCF8820_ANSWER_UNKNOWN: return "unknown in this page";
+    case PCF8820_ANSWER_OUT_OF_RANGE: return "out of range";
     default: return NULL;
     }
 }
@@ -152,9 +158,8 @@ static const char *told(uint64_t answer)
 /* The bus acknowledges every byte of the message. The answer to a command says what came of it. */
 static void send_event(uint16_t event)
 {
-    uint64_t answer = pcf8820_step(record, WORDS, memory, PLACES, writers, PLACES, event);
-    if (answer < ACCEPTED)
-        must("step", answer);
+    uint64_t answer = accepted("step", pcf8820_step(record, WORDS, memory, PLACES, writers, PLACES,
+                                                    event));
     if (told(answer) != NULL)
         printf("command %u: %s\n", event, told(answer));
 }

@@ -45,7 +45,8 @@
  *     33  the phase's RS                                     0, 1 in phases 4 and 5, else 0
  *     34  the event count                                    any
  *
- * Any other buffer, one that is not 35 words long among them, stands for no record.
+ * Any other buffer, one that is not 35 words long among them, stands for no record. The words, the
+ * phases and all numbers below have names, which stand before the calls.
  *
  * The memories
  *
@@ -71,8 +72,9 @@
  *   3  the event is not one of those listed above
  *   4  the event count is 2^64 - 1
  *
- * Where more than one applies, the lowest is given. A refused call changes neither the record nor
- * the memories.
+ * Where more than one applies, the lowest is given. A refused call changes no buffer that it is lent,
+ * with one exception: a run does the events before its refused one, and these stand. The numbers that
+ * a call gives by pointer are results: they are set in every case, refused or not.
  *
  * Every length counts elements, not bytes. The buffers of one call must be valid for their length,
  * aligned, and must not overlap; nothing more is asked of them. Where a length is 0 the pointer still
@@ -87,6 +89,129 @@
 #ifdef __cplusplus
 extern "C" {
 #endif
+
+/* ---- names for the numbers */
+
+/* How many: words of a record; places of a memory, which are columns times banks; rows of the glass;
+ * frames of a round, and bytes in the row buffer of pcf8820_pulse_row, which are columns times frames;
+ * lines of a drawing list at most. */
+enum pcf8820_size {
+    PCF8820_RECORD_WORDS = 35,
+    PCF8820_COLUMNS = 101,
+    PCF8820_BANKS = 17,
+    PCF8820_PLACES = 1717,
+    PCF8820_ROWS = 67,
+    PCF8820_FRAMES = 4,
+    PCF8820_ROW_PULSES = 404,
+    PCF8820_MOST_LINES = 4096
+};
+
+/* Where the record has what. */
+enum pcf8820_word {
+    PCF8820_WORD_H = 0,
+    PCF8820_WORD_DO = 1,
+    PCF8820_WORD_PD = 2,
+    PCF8820_WORD_V = 3,
+    PCF8820_WORD_D = 4,
+    PCF8820_WORD_E = 5,
+    PCF8820_WORD_MX = 6,
+    PCF8820_WORD_MY = 7,
+    PCF8820_WORD_PS = 8,
+    PCF8820_WORD_X = 9,
+    PCF8820_WORD_Y = 10,
+    PCF8820_WORD_BS = 11,
+    PCF8820_WORD_BSH = 12,
+    PCF8820_WORD_DP = 13,
+    PCF8820_WORD_PRS = 14,
+    PCF8820_WORD_HVE = 15,
+    PCF8820_WORD_S = 16,
+    PCF8820_WORD_TC = 17,
+    PCF8820_WORD_SM = 18,
+    PCF8820_WORD_VOP = 19,
+    PCF8820_WORD_GR = 20,
+    PCF8820_WORD_GS0 = 21,
+    PCF8820_WORD_GS1 = 22,
+    PCF8820_WORD_GS2 = 23,
+    PCF8820_WORD_GS3 = 24,
+    PCF8820_WORD_DOF = 25,
+    PCF8820_WORD_DM = 26,
+    PCF8820_WORD_EC = 27,
+    PCF8820_WORD_OC = 28,
+    PCF8820_WORD_PINS = 29,
+    PCF8820_WORD_STATUS = 30,
+    PCF8820_WORD_LAST_RS = 31,
+    PCF8820_WORD_PHASE = 32,
+    PCF8820_WORD_PHASE_RS = 33,
+    PCF8820_WORD_COUNT = 34
+};
+
+/* What the word of the phase holds. */
+enum pcf8820_phase {
+    PCF8820_PHASE_IDLE = 0,
+    PCF8820_PHASE_ADDRESS_AWAITED = 1,
+    PCF8820_PHASE_IGNORING = 2,
+    PCF8820_PHASE_CONTROL_AWAITED = 3,
+    PCF8820_PHASE_ONE_BYTE = 4,
+    PCF8820_PHASE_ENDLESS_BYTES = 5,
+    PCF8820_PHASE_READING = 6,
+    PCF8820_PHASE_READ_ENDED = 7
+};
+
+/* Bus events above those of a byte from the master, which is its own number. A sensor reading is
+ * PCF8820_EVENT_SENSOR + reading. */
+enum pcf8820_event {
+    PCF8820_EVENT_START = 256,
+    PCF8820_EVENT_STOP = 257,
+    PCF8820_EVENT_READ = 258,
+    PCF8820_EVENT_LAST_READ = 259,
+    PCF8820_EVENT_RESET = 260,
+    PCF8820_EVENT_SENSOR = 512
+};
+
+/* What pcf8820_step gives for an accepted event. A byte that was read is PCF8820_ANSWER_READ + byte. */
+enum pcf8820_answer {
+    PCF8820_ANSWER_NONE = 256,
+    PCF8820_ANSWER_ACKNOWLEDGED = 257,
+    PCF8820_ANSWER_NOT_ACKNOWLEDGED = 258,
+    PCF8820_ANSWER_TAKEN = 259,
+    PCF8820_ANSWER_UNKNOWN = 260,
+    PCF8820_ANSWER_OUT_OF_RANGE = 261,
+    PCF8820_ANSWER_READ = 512
+};
+
+/* What the calls of the glass give: a level is PCF8820_GLASS_LEVEL + level, a place is
+ * PCF8820_GLASS_PLACE + place. In the row buffer of pcf8820_pulse_row, where a byte is one pulse, a
+ * dark and an undriven pixel have bytes that no pulse is. */
+enum pcf8820_glass_answer {
+    PCF8820_GLASS_DARK = 256,
+    PCF8820_GLASS_UNDRIVEN = 257,
+    PCF8820_GLASS_LEVEL = 512,
+    PCF8820_GLASS_PLACE = 512,
+    PCF8820_MOST_PULSE = 16,
+    PCF8820_ROW_DARK = 254,
+    PCF8820_ROW_UNDRIVEN = 255
+};
+
+/* pcf8820_pulses of a pixel that gets pulses is this and the four. It is too large for an enum. */
+#define PCF8820_PULSES UINT64_C(0x100000000)
+
+/* What is refused, of all calls. 0 is no refusal: what was asked is done. */
+enum pcf8820_refusal {
+    PCF8820_DONE = 0,
+    PCF8820_REFUSED_MEMORY = 1,
+    PCF8820_REFUSED_RECORD = 2,
+    PCF8820_REFUSED_EVENT = 3,
+    PCF8820_REFUSED_COUNT = 4,
+    PCF8820_REFUSED_PIXEL = 5,
+    PCF8820_REFUSED_LINE = 6,
+    PCF8820_REFUSED_VALUE = 7,
+    PCF8820_REFUSED_FIELD = 8,
+    PCF8820_REFUSED_LONG_LIST = 9,
+    PCF8820_REFUSED_SHORT_OUTPUT = 10,
+    PCF8820_REFUSED_ROW_BUFFER = 11
+};
+
+/* ---- the calls */
 
 /* Writes the record after a power-on reset for these pins: pd and dof are 1, word 29 is pins, every
  * other word is 0.
@@ -220,7 +345,11 @@ uint64_t pcf8820_pulse_row(const uint64_t *record, size_t record_len,
  *   10       refused, *length events are needed
  *
  * All three numbers are set in every case, those that the result does not name to 0. A refused call
- * leaves the output unchanged, and so does an accepted one beyond its length. */
+ * leaves the output unchanged, and so does an accepted one beyond its length.
+ *
+ * To ask how much room a list needs, call with out_len 0, out being any aligned pointer that is not
+ * null: a list without fault then gives 10 and its *length, or 0 where it needs no events, and the
+ * same list with as many words as *length gives 0. */
 uint64_t pcf8820_compile(const uint64_t *record, size_t record_len,
                          const uint8_t *text, size_t text_len,
                          uint16_t *out, size_t out_len,

@@ -3,7 +3,7 @@
 #include <stdio.h>
 #include "pcf8820.h"
 
-enum { RECORD = 35, CELLS = 1717, EVENTS = 22 };
+enum { RECORD = PCF8820_RECORD_WORDS, CELLS = PCF8820_PLACES, EVENTS = 22 };
 
 int main(void)
 {

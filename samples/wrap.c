@@ -3,7 +3,7 @@
 #include <stdio.h>
 #include "pcf8820.h"
 
-enum { RECORD = 35, COUNT = 34, CELLS = 1717 };
+enum { RECORD = PCF8820_RECORD_WORDS, CELLS = PCF8820_PLACES };
 
 int main(void)
 {
@@ -13,7 +13,7 @@ int main(void)
     uint64_t done, unknown, out_of_range;
 
     pcf8820_reset(record, RECORD, 0);
-    record[COUNT] = 4294967295u;
+    record[PCF8820_WORD_COUNT] = 4294967295u;
     pcf8820_run(record, RECORD, memory, CELLS, writers, CELLS, events, 5, &done, &unknown,
                 &out_of_range);
     printf("byte %d, written by event %" PRIu64 "\n", memory[0], writers[0]);
