@@ -12,6 +12,7 @@ the model's. What is compared:
 - in the documents, each code block whose first line begins with `$ `: what its commands print;
 - docs/glass.png: its pixels;
 - samples/picture: the character of every level, and of a dark and an undriven pixel;
+- the scripts of samples/: statuses and messages, by scripts.py (not where outputs are written);
 - in the documents, each name in back quotes: it has to stand in the project.
 """
 import glob
@@ -22,6 +23,7 @@ import sys
 import zlib
 
 import names
+import scripts
 
 DOCUMENTS = ["README.md", "docs/LESSONS.md"]
 PAIRS = ["samples/night"]
@@ -162,11 +164,13 @@ def main(words):
         compare_document(sides, path)
     compare_picture(sides)
     compare_characters(sides)
-    wrong = sides.wrong + names.missing()
+    made, failed = (0, []) if making else scripts.compare(sides.programs)
+    wrong = sides.wrong + failed + names.missing()
     if wrong:
         print("samples: DIFFERENT: " + "\n".join(wrong), file=sys.stderr)
         sys.exit(1)
-    print(f"samples: {sides.compared} outputs as expected; every edit is named in docs/STATEMENTS.md")
+    print(f"samples: {sides.compared} outputs and {made} calls of scripts as expected; every edit is named in "
+          "docs/STATEMENTS.md")
 
 
 main(sys.argv[1:])

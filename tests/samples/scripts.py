@@ -1,0 +1,232 @@
+"""The scripts of samples/: their statuses, what they say where something is wrong, and what they leave behind.
+
+Each case is a call and what is expected of it: its status, and words of its output and of its messages. A script that
+fails says so in lines that begin with its own name, and with no trace of Python.
+"""
+import collections
+import os
+import shutil
+import subprocess
+import tempfile
+
+Said = collections.namedtuple("Said", "status out error")
+
+ROOT = os.getcwd()
+RUN, PICTURE, BREAK = (os.path.join(ROOT, "samples", name) for name in ("run", "picture", "break"))
+PIXEL = "P3\n1 1\n255\n0 0 0\n"
+USAGE = "samples/picture --help tells how it is called"
+# A crate whose check takes a few seconds.
+SMALL = "program_io"
+
+
+def called(words, directory=ROOT, given="", **variables):
+    done = subprocess.run(words, cwd=directory, input=given.encode(), stdout=subprocess.PIPE, stderr=subprocess.PIPE,
+                          env={**os.environ, **variables}, timeout=600)
+    return Said(done.returncode, done.stdout.decode(errors="replace"), done.stderr.decode(errors="replace"))
+
+
+class Calls:
+    """Makes calls and keeps what was not as expected."""
+
+    def __init__(self):
+        self.made, self.wrong = 0, []
+
+    def expect(self, words, status, out=None, error=None, **how):
+        """Output and messages are compared whole where they end with a newline, else they have to hold the words."""
+        self.made += 1
+        said = called(words, **how)
+        good = said.status == status and self.fits(said.out, out) and self.fits(said.error, error)
+        if not good or "Traceback" in said.error:
+            self.wrong.append(f"{' '.join(words)}: {said}, and not status {status}, {out!r}, {error!r}"[:1000])
+        return said
+
+    @staticmethod
+    def fits(text, wanted):
+        if wanted is None:
+            return text == ""
+        return text == wanted if wanted.endswith("\n") else wanted in text
+
+
+# ---- samples/run
+
+
+def runs(calls, programs):
+    last = "The last write is event 65, line 66 of %s: byte 0 into column 43 of bank 2.\n"
+    known = {"PROGRAMS": programs}
+    absolute = os.path.join(ROOT, "samples/stray.capture")
+    for words, directory, name in (
+            ([RUN], "/", absolute), (["samples/run"], ROOT, "samples/stray.capture"),
+            (["./run", "stray.capture"], "samples", "stray.capture"),
+            (["../run", "../stray.capture"], "samples/expected", "../stray.capture"), ([RUN, absolute], "/", absolute)):
+        calls.expect(words, 0, out=(last % name)[:-1], directory=directory, **known)
+    with open(absolute) as file:
+        calls.expect([RUN, "-"], 0, out=(last % "standard input")[:-1], given=file.read(), **known)
+    calls.expect([RUN, "--help"], 0, out="usage: samples/run [CAPTURE]\n", **known)
+    calls.expect([RUN, "a", "b"], 2, error="samples/run: too many arguments; usage: samples/run [CAPTURE]\n", **known)
+
+
+def bad_runs(calls, programs):
+    with tempfile.TemporaryDirectory() as directory:
+        with open(os.path.join(directory, "with blank"), "w") as file:
+            file.write("pins\t0\n256\n261\n")
+        calls.expect([RUN, "with blank"], 1, out="refused\t3\n", directory=directory, PROGRAMS=programs,
+                     error="samples/run: line 3 of with blank is bad: not what a capture has there\n")
+        calls.expect([RUN, "none"], 1, error="samples/run: none: there is no such file\n", directory=directory,
+                     PROGRAMS=programs)
+        calls.expect([RUN, "."], 1, error="samples/run: .: is a directory\n", directory=directory, PROGRAMS=programs)
+        calls.expect([RUN, "with blank"], 1, error=f"samples/run: there is no {directory}/replay\n", directory=directory,
+                     PROGRAMS=directory)
+
+
+def script(path, *lines):
+    os.makedirs(os.path.dirname(path), exist_ok=True)
+    with open(path, "w") as file:
+        file.write("\n".join(("#!/bin/sh",) + lines) + "\n")
+    os.chmod(path, 0o755)
+
+
+def first_runs(calls, programs):
+    """Where the program is not there, rt is asked for it: here something that goes by its name."""
+    with tempfile.TemporaryDirectory() as project:
+        for name in ("run", "stray.capture"):
+            os.makedirs(os.path.join(project, "samples"), exist_ok=True)
+            shutil.copy(f"samples/{name}", os.path.join(project, "samples"))
+        rt, path = os.path.join(project, "bin/rt"), f"{project}/bin:{os.environ['PATH']}"
+        environment = {"PATH": path, "PROGRAMS": ""}
+        run = [os.path.join(project, "samples/run")]
+        log = os.path.join(project, "target/samples-run.log")
+
+        script(rt, "echo 'rt: text proved (9 s)'", "echo 'a fact of it'", "echo 'rt: FAILED: capture' >&2", "exit 1")
+        calls.expect(run, 1, error="samples/run: proving and making replay, a line for each crate; this takes about three "
+                     "minutes\nsamples/run: text proved (9 s)\nsamples/run: FAILED: capture\n"
+                     f"samples/run: replay could not be made; {log} says why\n", **environment)
+        with open(log) as file:
+            calls.made += 1
+            if "a fact of it" not in file.read():
+                calls.wrong.append(f"{log} does not have what rt said")
+        script(rt, "echo 'rt: text proved (9 s)'", "[ \"$*\" = 'check replay' ] || exit 1",
+               f"mkdir -p target/bin && cp '{programs}/replay' target/bin")
+        calls.expect(run, 0, out="The last write is event 65", error="samples/run: text proved (9 s)", **environment)
+        calls.expect(run, 0, out="The last write is event 65", **environment)
+
+
+# ---- samples/picture
+
+
+def pictures(calls):
+    calls.expect([PICTURE, "text"], 0, out="#\n", given=PIXEL)
+    calls.expect([PICTURE, "text", "0-0", "0-0"], 0, out="#\n", given=PIXEL)
+    calls.expect([PICTURE, "png", "1"], 0, out="PNG", given=PIXEL)
+    calls.expect([PICTURE, "--help"], 0, out="samples/picture text [ROWS COLUMNS]")
+    for given, message in (
+            ("", "the input is empty; view prints nothing where it can't read its capture"),
+            (" \n", "the input is empty; view prints nothing where it can't read its capture"),
+            ("refused\t7\n", "there is no picture, since view has refused its capture: refused 7"),
+            ("column\tbank\tbyte\tevent\n", "no pixmap in text form (P3), but: column\tbank\tbyte\tevent"),
+            ("P6\n1 1\n255\nabc", "no pixmap in text form (P3), but: P6"),
+            ("P3\n1 1\n", "the pixmap ends within its header"),
+            ("P3\nx 1\n255\n", "the width is no number: x"), ("P3\n1 -1\n255\n", "the height is no number: -1"),
+            ("P3\n1 0\n255\n", "a pixmap with no pixel, or with another maximum than 255"),
+            ("P3\n1 1\n63\n0 0 0\n", "a pixmap with no pixel, or with another maximum than 255"),
+            (PIXEL[:-3], "the pixmap ends early: 2 numbers for 1 times 1 pixels of three"),
+            (PIXEL + "0", "the pixmap goes on after its last pixel: 4 numbers for 1 times 1 pixels of three"),
+            (PIXEL[:-2] + "x", "word 3 behind the header is no number: x"),
+            (PIXEL[:-2] + "256", "word 3 behind the header is above 255: 256")):
+        calls.expect([PICTURE, "text"], 1, error=f"samples/picture: {message}\n", given=given)
+        calls.expect([PICTURE, "png"], 1, error=f"samples/picture: {message}\n", given=given)
+    calls.expect([PICTURE, "text"], 1, given=PIXEL[:-2] + "9",
+                 error="samples/picture: a colour that view does not print: 0 0 9\n")
+
+
+def wrong_pictures(calls):
+    for words, message in (
+            ([], "text or png is wanted, and no more than goes with it"),
+            (["ppm"], "text or png is wanted, and no more than goes with it"),
+            (["text", "0-0"], "text or png is wanted, and no more than goes with it"),
+            (["png", "4", "4"], "text or png is wanted, and no more than goes with it"),
+            (["png", "0"], "the scale is a number from 1 to 64, and not 0"),
+            (["png", "65"], "the scale is a number from 1 to 64, and not 65"),
+            (["png", "-1"], "the scale is a number from 1 to 64, and not -1"),
+            (["png", "two"], "the scale is a number from 1 to 64, and not two"),
+            (["text", "0", "0-0"], "rows are given as first and last, as in 0-11, and not as 0"),
+            (["text", "0-0", "a-b"], "columns are given as first and last, as in 0-11, and not as a-b"),
+            (["text", "3-2", "0-0"], "rows 3-2: the first comes after the last"),
+            (["text", "0-1", "0-0"], "there are no rows up to 1: the picture has rows 0 to 0"),
+            (["text", "0-0", "0-101"], "there are no columns up to 101: the picture has columns 0 to 0")):
+        calls.expect([PICTURE, *words], 2, error=f"samples/picture: {message}; {USAGE}\n", given=PIXEL)
+    with open("/dev/full", "wb") as full:
+        done = subprocess.run([PICTURE, "text"], input=PIXEL.encode(), stdout=full, stderr=subprocess.PIPE)
+    calls.made += 1
+    if done.returncode != 1 or done.stderr != b"samples/picture: standard output: No space left on device\n":
+        calls.wrong.append(f"samples/picture on an output that is full: {done}")
+
+
+# ---- samples/break
+
+
+def wrong_breaks(calls):
+    calls.expect([BREAK], 0, out="  display/mirror_without_mx: columns are mirrored where MX = 1")
+    calls.expect([BREAK, "--help"], 0, out="samples/break EDIT")
+    for word, near in ("mirror_without", "display/mirror_without_mx"), ("display/no/such.edit", ""):
+        calls.expect([BREAK, word], 2, error=f"samples/break: there is no edit {word}; near to it: {near}")
+    calls.expect([BREAK, "a", "b"], 2, error="samples/break: too many arguments; usage: samples/break [EDIT]\n")
+    calls.expect([BREAK, "leading_zero_accepted"], 2, error="is an edit of more than one crate: ")
+
+
+def small_project(to):
+    """A project of one small crate, with edits of its own: one that is not refused, one that fits nowhere, one that is no code."""
+    for part in (".ci", "samples", f"crates/{SMALL}"):
+        shutil.copytree(part, os.path.join(to, part))
+    with open(os.path.join(to, "crates.txt"), "w") as file, open("crates.txt") as all_crates:
+        file.writelines(line for line in all_crates if line.startswith(SMALL + ":"))
+    with open(f"crates/{SMALL}/src/lib.rt") as file:
+        first = file.readline().rstrip("\n")
+    edits = ("harmless", first, "// Another comment."), ("nowhere", first + "no", "x"), ("garbled", first, "fn")
+    for name, old, new in edits:
+        with open(os.path.join(to, f"crates/{SMALL}/must-fail/{name}.edit"), "w") as file:
+            file.write(f"# {name}\nfile: src/lib.rt\nold: {old}\nnew: {new}\n")
+
+
+def refused(calls, project, room):
+    """The first edit of the crate itself, by its path as the caller sees it."""
+    below = f"crates/{SMALL}/must-fail"
+    edit = sorted(os.listdir(below))[0]
+    name = f"{SMALL}/{edit.removesuffix('.edit')}"
+    said = calls.expect([os.path.join(project, "samples/break"), edit], 0, directory=os.path.join(project, below),
+                        TMPDIR=room, out=f"\nThe edit {name} was refused, as it must be.",
+                        error=f"samples/break: checking {SMALL} with this edit\n")
+    for words in (f"The edit {name}: ", f"\ncrates/{SMALL}/", "\n  - ", "\n  + ", f"\nRefused at crates/{SMALL}/",
+                  "\n  fact: ", "\nThe prover says:\n  "):
+        calls.made += 1
+        if words not in said.out:
+            calls.wrong.append(f"samples/break {edit}: no {words!r} in {said.out}")
+
+
+def breaks(calls):
+    with tempfile.TemporaryDirectory() as directory:
+        project, room = os.path.join(directory, "project"), os.path.join(directory, "room")
+        small_project(project)
+        os.makedirs(room)
+        refused(calls, project, room)
+        for name, out, error in (
+                ("harmless", "  + // Another comment.", f"{SMALL}/harmless was NOT refused: {SMALL} is still proved with it"),
+                ("nowhere", "The edit", f"{SMALL}/nowhere: its old text stands 0 times in src/lib.rt, and not once"),
+                ("garbled", "  + fn", f"{SMALL}/garbled did not get as far as the prover")):
+            calls.expect([os.path.join(project, "samples/break"), name], 1, TMPDIR=room, out=out, error=error)
+        calls.made += 1
+        if os.listdir(room):
+            calls.wrong.append(f"samples/break leaves {os.listdir(room)} behind")
+
+
+def compare(programs):
+    """How many calls were made, and what was not as expected."""
+    calls = Calls()
+    programs = os.path.abspath(programs)
+    runs(calls, programs)
+    bad_runs(calls, programs)
+    first_runs(calls, programs)
+    pictures(calls)
+    wrong_pictures(calls)
+    wrong_breaks(calls)
+    breaks(calls)
+    return calls.made, calls.wrong
