@@ -3,10 +3,11 @@
     main.py PROGRAMS ARCHIVE           compares
     main.py --make PROGRAMS ARCHIVE    writes the expected outputs and the documents' outputs
 
-PROGRAMS is a directory with replay, draw, view and compare, ARCHIVE the library for C. `--make` is for
-the model's. What is compared:
+PROGRAMS is a directory with replay, draw, view, compare, who, state and trace, ARCHIVE the library for C.
+`--make` is for the model's. What is compared:
 
-- each capture of samples/: its listing and its glass, with samples/expected/NAME.listing and .glass;
+- each capture of samples/: its listing, its glass, the chip at its end and its events in words, with
+  samples/expected/NAME.listing, .glass, .state and .trace;
 - each pair of captures NAME-1 and NAME-2: what differs, with samples/expected/NAME.compared;
 - each list of samples/: the capture that draws it, with samples/expected/NAME.drawn;
 - in the documents, each code block whose first line begins with `$ `: what its commands print;
@@ -77,6 +78,8 @@ def compare_samples(sides):
     for capture in sorted(glob.glob("samples/*.capture")):
         sides.expect(f"target/bin/replay {capture}", expected(capture, "listing"))
         sides.expect(f"target/bin/view {capture} | samples/picture text", expected(capture, "glass"))
+        sides.expect(f"target/bin/state {capture}", expected(capture, "state"))
+        sides.expect(f"target/bin/trace {capture}", expected(capture, "trace"))
     for name in PAIRS:
         sides.expect(f"target/bin/compare {name}-1.capture {name}-2.capture", expected(name, "compared"))
     for drawing in sorted(glob.glob("samples/*.list")):
