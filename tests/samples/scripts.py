@@ -218,6 +218,31 @@ def breaks(calls):
             calls.wrong.append(f"samples/break leaves {os.listdir(room)} behind")
 
 
+def breaks_above(calls):
+    """What a crate stands on is proved first, in the project: here by something that goes by rt's name."""
+    with tempfile.TemporaryDirectory() as project:
+        for part in (".ci", "samples"):
+            shutil.copytree(part, os.path.join(project, part))
+        for name, text in (("crates.txt", "below:\nabove: below io\n"), ("crates/below/src/lib.rt", "\n"),
+                           ("crates/above/src/lib.rt", "fn one() -> u8 {\n    1\n}\n"),
+                           ("crates/above/must-fail/two.edit", "# one is 1\nfile: src/lib.rt\nold: 1\nnew: 2\n")):
+            os.makedirs(os.path.dirname(os.path.join(project, name)), exist_ok=True)
+            with open(os.path.join(project, name), "w") as file:
+                file.write(text)
+        for status in 0, 1:
+            script(os.path.join(project, "bin/rt"), f"[ \"$1\" = dev ] || {{ echo 'rt: below tried'; exit {status}; }}",
+                   "grep -q '^    2$' crates/above/src/lib.rt && [ -d crates/below ] || exit 1",
+                   "echo \"note: $PWD/crates/above/src/lib.rt:1:1: it is not proved that one is 1 (\\`returns\\`)\"",
+                   "echo logic=not-proved", "exit 1")
+            calls.expect([os.path.join(project, "samples/break"), "above/two"], status, PATH=f"{project}/bin:{os.environ['PATH']}",
+                         out="The edit above/two: one is 1" if status else
+                         "The edit above/two: one is 1\ncrates/above/src/lib.rt, line 2\n  - 1\n  + 2\n"
+                         "Refused at crates/above/src/lib.rt:1\n  function: one\n  fact: returns\nThe prover says:\n"
+                         "  it is not proved that one is 1 (`returns`)\nThe edit above/two was refused, as it must be.\n",
+                         error="what above stands on is not proved (status 1): rt: below tried" if status else
+                         "samples/break: below tried\nsamples/break: checking above with this edit\n")
+
+
 def compare(programs):
     """How many calls were made, and what was not as expected."""
     calls = Calls()
@@ -229,4 +254,5 @@ def compare(programs):
     wrong_pictures(calls)
     wrong_breaks(calls)
     breaks(calls)
+    breaks_above(calls)
     return calls.made, calls.wrong
