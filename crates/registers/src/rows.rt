@@ -1,5 +1,5 @@
 // The command rows of the data sheet's Table 2: each takes the registers and hands them back, changing only its own fields.
-// NOP and row block swapping change none and need no method.
+// NOP and row block swapping have no such field: their methods hand the registers back as they are.
 ghost use mathlib.Core.Path.{_≡_};
 ghost use Rattle.registers.specs.Table.{taken, nop, pageReturn, instructionSet, selectFunction, setY, setX};
 ghost use Rattle.registers.specs.Table.{displayControl, externalDisplayControl, biasSystem, biasSystemHalf, displayPart};
