@@ -15,8 +15,8 @@ ROOT = os.getcwd()
 RUN, PICTURE, BREAK = (os.path.join(ROOT, "samples", name) for name in ("run", "picture", "break"))
 PIXEL = "P3\n1 1\n255\n0 0 0\n"
 USAGE = "samples/picture --help tells how it is called"
-# A crate whose check takes a few seconds.
-SMALL = "program_io"
+# A crate that stands on no other, and whose check takes a few seconds.
+SMALL = "text"
 
 
 def called(words, directory=ROOT, given="", **variables):
@@ -174,15 +174,14 @@ def wrong_breaks(calls):
 
 
 def small_project(to):
-    """A project of one small crate, with edits of its own: one that is not refused, one that fits nowhere, one that is no code."""
+    """A project of one small crate, with edits of its own: one that fits nowhere, and one that is no code."""
     for part in (".ci", "samples", f"crates/{SMALL}"):
         shutil.copytree(part, os.path.join(to, part))
     with open(os.path.join(to, "crates.txt"), "w") as file, open("crates.txt") as all_crates:
         file.writelines(line for line in all_crates if line.startswith(SMALL + ":"))
     with open(f"crates/{SMALL}/src/lib.rt") as file:
         first = file.readline().rstrip("\n")
-    edits = ("harmless", first, "// Another comment."), ("nowhere", first + "no", "x"), ("garbled", first, "fn")
-    for name, old, new in edits:
+    for name, old, new in ("nowhere", first + "no", "x"), ("garbled", first, "fn"):
         with open(os.path.join(to, f"crates/{SMALL}/must-fail/{name}.edit"), "w") as file:
             file.write(f"# {name}\nfile: src/lib.rt\nold: {old}\nnew: {new}\n")
 
@@ -209,7 +208,6 @@ def breaks(calls):
         os.makedirs(room)
         refused(calls, project, room)
         for name, out, error in (
-                ("harmless", "  + // Another comment.", f"{SMALL}/harmless was NOT refused: {SMALL} is still proved with it"),
                 ("nowhere", "The edit", f"{SMALL}/nowhere: its old text stands 0 times in src/lib.rt, and not once"),
                 ("garbled", "  + fn", f"{SMALL}/garbled did not get as far as the prover")):
             calls.expect([os.path.join(project, "samples/break"), name], 1, TMPDIR=room, out=out, error=error)
@@ -218,29 +216,39 @@ def breaks(calls):
             calls.wrong.append(f"samples/break leaves {os.listdir(room)} behind")
 
 
+def two_crates(to):
+    """A project of two crates, one above the other, for something that goes by rt's name."""
+    for part in (".ci", "samples"):
+        shutil.copytree(part, os.path.join(to, part))
+    for name, text in (("crates.txt", "below:\nabove: below io\n"), ("crates/below/src/lib.rt", "\n"),
+                       ("crates/above/src/lib.rt", "fn one() -> u8 {\n    1\n}\n"),
+                       ("crates/above/must-fail/two.edit", "# one is 1\nfile: src/lib.rt\nold: 1\nnew: 2\n")):
+        os.makedirs(os.path.dirname(os.path.join(to, name)), exist_ok=True)
+        with open(os.path.join(to, name), "w") as file:
+            file.write(text)
+
+
+MADE = "The edit above/two: one is 1\ncrates/above/src/lib.rt, line 2\n  - 1\n  + 2\n"
+REFUSED = ("Refused at crates/above/src/lib.rt:1\n  function: one\n  fact: returns\nThe prover says:\n"
+           "  it is not proved that one is 1 (`returns`)\nThe edit above/two was refused, as it must be.\n")
+CHECKING = "samples/break: below tried\nsamples/break: checking above with this edit\n"
+
+
 def breaks_above(calls):
-    """What a crate stands on is proved first, in the project: here by something that goes by rt's name."""
+    """What a crate stands on is proved first, in the project. An edit that is not refused is told as an error."""
+    note = "note: $PWD/crates/above/src/lib.rt:1:1: it is not proved that one is 1 (\\`returns\\`)"
     with tempfile.TemporaryDirectory() as project:
-        for part in (".ci", "samples"):
-            shutil.copytree(part, os.path.join(project, part))
-        for name, text in (("crates.txt", "below:\nabove: below io\n"), ("crates/below/src/lib.rt", "\n"),
-                           ("crates/above/src/lib.rt", "fn one() -> u8 {\n    1\n}\n"),
-                           ("crates/above/must-fail/two.edit", "# one is 1\nfile: src/lib.rt\nold: 1\nnew: 2\n")):
-            os.makedirs(os.path.dirname(os.path.join(project, name)), exist_ok=True)
-            with open(os.path.join(project, name), "w") as file:
-                file.write(text)
-        for status in 0, 1:
-            script(os.path.join(project, "bin/rt"), f"[ \"$1\" = dev ] || {{ echo 'rt: below tried'; exit {status}; }}",
-                   "grep -q '^    2$' crates/above/src/lib.rt && [ -d crates/below ] || exit 1",
-                   "echo \"note: $PWD/crates/above/src/lib.rt:1:1: it is not proved that one is 1 (\\`returns\\`)\"",
-                   "echo logic=not-proved", "exit 1")
-            calls.expect([os.path.join(project, "samples/break"), "above/two"], status, PATH=f"{project}/bin:{os.environ['PATH']}",
-                         out="The edit above/two: one is 1" if status else
-                         "The edit above/two: one is 1\ncrates/above/src/lib.rt, line 2\n  - 1\n  + 2\n"
-                         "Refused at crates/above/src/lib.rt:1\n  function: one\n  fact: returns\nThe prover says:\n"
-                         "  it is not proved that one is 1 (`returns`)\nThe edit above/two was refused, as it must be.\n",
-                         error="what above stands on is not proved (status 1): rt: below tried" if status else
-                         "samples/break: below tried\nsamples/break: checking above with this edit\n")
+        two_crates(project)
+        for check, dev, status, out, error in (
+                (0, 1, 0, MADE + REFUSED, CHECKING),
+                (0, 0, 1, MADE, CHECKING + "samples/break: above/two was NOT refused: above is still proved with it\n"),
+                (1, 1, 1, "The edit above/two: one is 1\n", "samples/break: below tried\nsamples/break: what above stands on is "
+                 "not proved (status 1): rt: below tried\n")):
+            script(os.path.join(project, "bin/rt"), f"[ \"$1\" = dev ] || {{ echo 'rt: below tried'; exit {check}; }}",
+                   "grep -q '^    2$' crates/above/src/lib.rt && [ -d crates/below ] || exit 3",
+                   f"[ {dev} = 0 ] || echo \"{note}\"", f"[ {dev} = 0 ] || echo logic=not-proved", f"exit {dev}")
+            calls.expect([os.path.join(project, "samples/break"), "above/two"], status, out=out, error=error,
+                         PATH=f"{project}/bin:{os.environ['PATH']}")
 
 
 def compare(programs):
