@@ -19,6 +19,8 @@ use Rattle.capture_trace.specs.Told.{linesInParts, talliedInParts, isNot
 use Rattle.capture_trace.proofs.Events.{follows, replayed-done, stopped-done, unread-done, not-lent-done}
 use Rattle.capture_trace.proofs.Parts.{lines-joined, tallies-joined, whole-done}
 use Rattle.capture_trace.proofs.Tallies.{tally-counts}
+-- how long the lines of a part are at most, for a status byte and a count that a machine holds; the start has such ones, and every part leaves them
+pub use Rattle.capture_trace.proofs.Bounds.{Sized, part-bound, start-sized, fed-sized}
 -- a text may be cut anywhere
 pub use Rattle.capture_trace.proofs.Parts.{cut-anywhere}
 

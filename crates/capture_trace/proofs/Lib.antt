@@ -4,3 +4,4 @@ pub mod Parts
 pub mod Events
 pub mod Tallies
 pub mod Laws
+pub mod Bounds

@@ -71,8 +71,8 @@ fn follow_bytes(
 }
 
 // The next bytes, any number of them, after those that `capture` and `tally` come from. The memories are as for `capture::feed`, and so is a refusal,
-// which changes nothing. Where `told`, the line of each event is written from the start of `out` on; no byte of a part makes more than 96 bytes of
-// them.
+// which changes nothing. Where `told`, the line of each event is written from the start of `out` on; a byte of a part makes at most 74 bytes of
+// them (`part-bound`).
 pub fn follow(
     capture: Capture,
     tally: Tally,

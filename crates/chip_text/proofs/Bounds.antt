@@ -16,11 +16,12 @@ use Rattle.registers.specs.Refusals.{refuse, recordRefusal}
 use Rattle.registers.proofs.NamePieces.{name-bound}
 use Rattle.registers.proofs.Within.{both-left, both-right, allowed-registers, allowed-pins, register-bound}
 use Rattle.text.specs.Text.{bytes}
+use Rattle.print.specs.Chosen.{namedLine}
 use Rattle.print.specs.Printed.{decimalOf, partsFrom}
 use Rattle.print.proofs.Digits.{decimal-bound}
 use Rattle.print.proofs.Writing.{parts-bound}
 use Rattle.capture_trace.specs.declared.tally.Tally.{Tally}
-use Rattle.chip_text.specs.ChipText.{bitOf, oneAwaited, endless, phaseWords, phaseLine, namedLine, registerLineAt, registerLines}
+use Rattle.chip_text.specs.ChipText.{bitOf, oneAwaited, endless, phaseWords, phaseLine, registerLineAt, registerLines}
 use Rattle.chip_text.specs.ChipText.{recordLines, busLines, chipText}
 
 line-length : (a b : List ℕ) → length ((a ++ 9 ∷ b) ++ (10 ∷ [])) ≡ length a + length b + 2

@@ -12,7 +12,8 @@ use Rattle.registers.specs.Record.{names, values}
 use Rattle.registers.specs.Refusals.{recordRefusal}
 use Rattle.registers.proofs.NamePieces.{name-there}
 use Rattle.text.specs.Text.{bytes, split, join}
-use Rattle.print.specs.Printed.{decimalOf, top, Wrote, Output, wholeText}
+use Rattle.print.specs.Chosen.{namedLine}
+use Rattle.print.specs.Printed.{top, Wrote, Output, wholeText}
 use Rattle.print.proofs.Writing.{wrote-then, wrote-three, wrote-same, wrote-length}
 use Rattle.capture.specs.declared.End.{End}
 use Rattle.capture.specs.declared.End.the-variants as ends
@@ -20,17 +21,12 @@ use Rattle.capture.proofs.End.{the-type}
 use Rattle.capture_trace.specs.declared.tally.Tally.{Tally}
 use Rattle.listing.specs.ReplayText.{refusedCall}
 use Rattle.listing.proofs.CodeWays.{not-whole}
-use Rattle.chip_text.specs.ChipText.{bitOf, phaseWords, phaseLine, namedLine, registerLine, registerLines, recordLines, busLines, chipText, chipTextCall}
+use Rattle.chip_text.specs.ChipText.{bitOf, phaseWords, phaseLine, registerLine, registerLines, recordLines, busLines, chipText, chipTextCall}
 
 -- ---- one line
 
 line-fields : (a b : List ℕ) → a ++ ((9 ∷ []) ++ (b ++ (10 ∷ []))) ≡ (a ++ 9 ∷ b) ++ (10 ∷ [])
 line-fields a b = simp append-assoc
-
-pub named-wrote :
-    {l m n r : List ℕ} {i j k e : ℕ} (name : List ℕ) (value : ℕ) → length l ≤ top
-    → Wrote l i name m j → Wrote m j (9 ∷ []) n k → Wrote n k (decimalOf value ++ (10 ∷ [])) r e → Wrote l i (namedLine name value) r e
-named-wrote name value h a b c = wrote-same (line-fields name (decimalOf value)) (wrote-three h a b c)
 
 -- the name is a piece of the text of all names
 pub register-wrote :

@@ -9,17 +9,14 @@ use Rattle.registers.specs.declared.Phase.the-variants.{Idle, AddressAwaited, I
 use Rattle.registers.specs.Record.{names, values}
 use Rattle.registers.specs.Refusals.{recordRefusal}
 use Rattle.text.specs.Text.{bytes}
-use Rattle.print.specs.Chosen.{line}
-use Rattle.print.specs.Printed.{decimalOf, partsFrom, Output, wholeText}
+use Rattle.print.specs.Chosen.{line, namedLine}
+use Rattle.print.specs.Printed.{partsFrom, Output, wholeText}
 use Rattle.capture.specs.declared.End.{End}
 use Rattle.capture.specs.declared.End.the-variants as ends
 use Rattle.capture_trace.specs.declared.tally.Tally.{Tally}
 use Rattle.listing.specs.ReplayText.{refusedCall}
 
 -- ---- a line each
-
-abbrev pub namedLine : List ℕ → ℕ → List ℕ
-namedLine name n = line (name ∷ decimalOf n ∷ [])
 
 -- the register at place k of document 01's order, named as drawing lists do, and h, x, y and gr, which they don't set
 abbrev pub registerLine : ℕ → ℕ → List ℕ

@@ -3,7 +3,7 @@ ghost use mathlib.Core.Path.{_≡_};
 ghost use Rattle.registers.specs.Refusals.{recordRefusal};
 ghost use Rattle.print.specs.Printed.{Wrote, output, wholeText};
 ghost use Rattle.chip_text.specs.ChipText.{bitOf, oneAwaited, endless, phaseWords, phaseLine};
-ghost use Rattle.chip_text.specs.ChipText.{namedLine, registerLine, registerLines, recordLines, busLines, chipText, chipTextCall};
+ghost use Rattle.chip_text.specs.ChipText.{registerLine, registerLines, recordLines, busLines, chipText, chipTextCall};
 use capture::End;
 use capture_trace::tally::Tally;
 use print::Written;
@@ -11,8 +11,6 @@ use registers::Chip;
 use registers::Phase;
 use registers::names;
 use text::pieces::piece;
-
-const TAB: u8 = 9;
 
 const NEWLINE: u8 = 10;
 
@@ -22,21 +20,12 @@ fn bit(set: bool) -> u64
     if set { 1 } else { 0 }
 }
 
-// A line with a number.
-fn named(name: &[u8], value: u64, out: &mut [u8], at: usize) -> usize
-    ensures { λ r. ⌜ Wrote (now (out .entry)) at (namedLine (now (name .entry)) value) (now (out .exit)) r ⌝ }
-{
-    let after_name = print::bytes(name, out, at);
-    let after_tab = print::byte(TAB, out, after_name);
-    print::field(value, NEWLINE, out, after_tab)
-}
-
 // The register at that place of document 01's order.
 fn register(place: usize, value: u8, out: &mut [u8], at: usize) -> usize
     ensures { λ r. ⌜ Wrote (now (out .entry)) at (registerLine place value) (now (out .exit)) r ⌝ }
 {
     let all = names::all();
-    named(piece(&all, names::SEPARATOR, place), value as u64, out, at)
+    print::named_line(piece(&all, names::SEPARATOR, place), value as u64, out, at)
 }
 
 // All registers, by their values in that order.
@@ -99,9 +88,9 @@ fn record_lines(chip: Chip, out: &mut [u8], at: usize) -> usize
 {
     let values = chip.registers.bytes();
     let after_registers = register_lines(&values, out, at);
-    let after_pins = named(b"pins", chip.pins as u64, out, after_registers);
-    let after_status = named(b"status", chip.status as u64, out, after_pins);
-    named(b"last rs", bit(chip.last_rs), out, after_status)
+    let after_pins = print::named_line(b"pins", chip.pins as u64, out, after_registers);
+    let after_status = print::named_line(b"status", chip.status as u64, out, after_pins);
+    print::named_line(b"last rs", bit(chip.last_rs), out, after_status)
 }
 
 // Where the bus stands, and what it has seen.
@@ -110,9 +99,9 @@ fn bus_lines(chip: Chip, tally: Tally, out: &mut [u8], at: usize) -> usize
 {
     let phase = chip.phase;
     let after_phase = phase_line(phase, out, at);
-    let after_count = named(b"count", chip.count, out, after_phase);
-    let after_yes = named(b"acknowledged", tally.acknowledged, out, after_count);
-    named(b"not acknowledged", tally.not_acknowledged, out, after_yes)
+    let after_count = print::named_line(b"count", chip.count, out, after_phase);
+    let after_yes = print::named_line(b"acknowledged", tally.acknowledged, out, after_count);
+    print::named_line(b"not acknowledged", tally.not_acknowledged, out, after_yes)
 }
 
 // The whole text.

@@ -1,3 +1,4 @@
 pub mod Fields
 pub mod CodeWays
 pub mod Known
+pub mod Bounds

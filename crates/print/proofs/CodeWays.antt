@@ -1,15 +1,16 @@
 -- Ways through the code, over plain variables: of one byte, of all of a text, of a number.
 use mathlib.Core.Path.{_≡_, refl, sym}
-use mathlib.Core.List.{List, [], _∷_}
+use mathlib.Core.List.{List, [], _∷_, _++_, append-assoc}
 use Prim.Native.Nat.{ℕ, _+_, _/_, _%_, _≤_, _<_}
 use native.Mathlib.Omega.{arith}
 use lib.ListN.{length, getD, drop, set, drop-of-length-le}
 use lib.Seq.{set-out}
 use Rattle.text.specs.Decimal.{digit}
 use Rattle.text.proofs.Finding.{drop-next}
+use Rattle.print.specs.Chosen.{namedLine}
 use Rattle.print.specs.Printed.{decimalOf, top, placeAfter, Wrote}
 use Rattle.print.proofs.Digits.{decimal-one, decimal-more}
-use Rattle.print.proofs.Writing.{after-fits, wrote-then, wrote-same, wrote-none}
+use Rattle.print.proofs.Writing.{after-fits, wrote-then, wrote-three, wrote-same, wrote-none}
 
 -- ---- one byte
 
@@ -54,3 +55,13 @@ module _ (n k : ℕ) where
       let front : n / 10 + (n % 10 + k) / 10 ≡ (n + k) / 10 = omega arith in
       let last : (n % 10 + k) % 10 ≡ (n + k) % 10 = omega arith in
       number-more (n + k) (omega arith) t (rw front at a) (rw last at b)
+
+-- ---- a line of a name and a number
+
+named-fields : (a b : List ℕ) → a ++ ((9 ∷ []) ++ (b ++ (10 ∷ []))) ≡ (a ++ 9 ∷ b) ++ (10 ∷ [])
+named-fields a b = simp append-assoc
+
+pub named-wrote :
+    {l m n r : List ℕ} {i j k e : ℕ} (name : List ℕ) (value : ℕ) → length l ≤ top
+    → Wrote l i name m j → Wrote m j (9 ∷ []) n k → Wrote n k (decimalOf value ++ (10 ∷ [])) r e → Wrote l i (namedLine name value) r e
+named-wrote name value h a b c = wrote-same (named-fields name (decimalOf value)) (wrote-three h a b c)

@@ -4,6 +4,7 @@ use mathlib.Core.List.{List, [], _∷_, _++_, List·Memᴰ}
 use mathlib.Core.Path.{_≡_}
 use Prim.Native.Nat.{ℕ, zero, suc, _+_, _≤_, _<_}
 use Rattle.text.specs.Text.{join}
+use Rattle.print.specs.Printed.{decimalOf}
 
 -- the row f k of place k, if the test t chooses it
 abbrev pub chosenAt : {A : Type 0} → (ℕ → Bool) → (ℕ → A) → ℕ → List A
@@ -22,6 +23,10 @@ linesOf text (x ∷ xs) = text x ++ linesOf text xs
 -- fields parted by one tab, ended by a newline
 abbrev pub line : List (List ℕ) → List ℕ
 line fields = join 9 fields ++ (10 ∷ [])
+
+-- a name and a number
+abbrev pub namedLine : List ℕ → ℕ → List ℕ
+namedLine name n = line (name ∷ decimalOf n ∷ [])
 
 -- ---- which rows there are, and in which order
 

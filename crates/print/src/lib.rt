@@ -3,6 +3,7 @@
 ghost use mathlib.Core.List.{[], _∷_, _++_};
 ghost use mathlib.Core.Path.{_≡_};
 ghost use Prim.Native.Nat.{_+_};
+ghost use Rattle.print.specs.Chosen.{namedLine};
 ghost use Rattle.print.specs.Printed.{decimalOf, placeAfter, Wrote, writtenNumber, writtenLength};
 
 // How the writing of a whole text ended: its length, the length that is needed where the output is shorter, or the number of a refusal.
@@ -88,6 +89,15 @@ pub fn field(n: u64, end: u8, out: &mut [u8], at: usize) -> usize
 {
     let next = decimal(n, out, at);
     byte(end, out, next)
+}
+
+// A line: a name, a tab and a number.
+pub fn named_line(name: &[u8], n: u64, out: &mut [u8], at: usize) -> usize
+    ensures { λ r. ⌜ Wrote (now (out .entry)) at (namedLine (now (name .entry)) n) (now (out .exit)) r ⌝ }
+{
+    let after_name = bytes(name, out, at);
+    let after_tab = byte(b'\t', out, after_name);
+    field(n, b'\n', out, after_tab)
 }
 
 // The sum n + k in decimal, also where no machine word holds it: k is carried into the tens first.

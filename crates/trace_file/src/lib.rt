@@ -67,7 +67,7 @@ pub fn take_in(
     }
 }
 
-// Room for the lines of a part of 4,096 bytes: no byte makes more than 74.
+// Room for the lines of a part of 4,096 bytes: a byte makes at most 74 (`part-bound` in capture_trace/proofs/Laws.antt).
 fn room() -> [u8; 303104]
     ensures { λ r. ⌜ 303104 ≡ length r ⌝ }
 {

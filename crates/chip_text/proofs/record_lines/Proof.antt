@@ -10,40 +10,40 @@ bytes-requires c κs = search needs
 register-lines-requires : tie.Need-register-lines-requires
 register-lines-requires c κs = search needs
 
-slice-aggregate-named : tie.Need-slice-aggregate-named
-slice-aggregate-named c = search needs
+slice-aggregate-named-line : tie.Need-slice-aggregate-named-line
+slice-aggregate-named-line c = search needs
 
-cast-named : tie.Need-cast-named
-cast-named c = search needs
+cast-named-line : tie.Need-cast-named-line
+cast-named-line c = search needs
 
-named-requires : tie.Need-named-requires
-named-requires c κs = search needs
+named-line-requires : tie.Need-named-line-requires
+named-line-requires c κs = search needs
 
-slice-aggregate-named-2 : tie.Need-slice-aggregate-named-2
-slice-aggregate-named-2 c = search needs
+slice-aggregate-named-line-2 : tie.Need-slice-aggregate-named-line-2
+slice-aggregate-named-line-2 c = search needs
 
-cast-named-2 : tie.Need-cast-named-2
-cast-named-2 c = search needs
+cast-named-line-2 : tie.Need-cast-named-line-2
+cast-named-line-2 c = search needs
 
-named-requires-2 : tie.Need-named-requires-2
-named-requires-2 c κs = search needs
+named-line-requires-2 : tie.Need-named-line-requires-2
+named-line-requires-2 c κs = search needs
 
-slice-aggregate-named-3 : tie.Need-slice-aggregate-named-3
-slice-aggregate-named-3 c = search needs
+slice-aggregate-named-line-3 : tie.Need-slice-aggregate-named-line-3
+slice-aggregate-named-line-3 c = search needs
 
 bit-requires : tie.Need-bit-requires
 bit-requires c κs = search needs
 
-named-requires-3 : tie.Need-named-requires-3
-named-requires-3 c κs = search needs
+named-line-requires-3 : tie.Need-named-line-requires-3
+named-line-requires-3 c κs = search needs
 
 same-length : tie.Need-same-length
 same-length c = search needs
 
 returns : tie.Need-returns
-returns c = 
+returns c =
     record-wrote _ (omega (arith, c .before .before .before .before .before .before .before .before .before .before .before .before .before .before .before .before .before .before .before .before .before .before .before .before .before .good .1 .0)) (c .before .before .before .before .before .before .before .before .before .before .before .before .before .before .before .before .before .before .before .before .before .before .before .bytes .ensures) (c .before .before .before .before .bit .ensures) (c .before .before .before .before .before .before .before .before .before .before .before .before .before .before .before .before .before .before .before .before .register-lines .ensures)
-    (c .before .before .before .before .before .before .before .before .before .before .before .before .before .before .named .ensures) (c .before .before .before .before .before .before .before .before .named2 .ensures) (c .before .before .named3 .ensures)
+    (c .before .before .before .before .before .before .before .before .before .before .before .before .before .before .named-line .ensures) (c .before .before .before .before .before .before .before .before .named-line2 .ensures) (c .before .before .named-line3 .ensures)
 
 pub record-lines-spec : {M : Type 1} → statement M
 record-lines-spec =
@@ -51,14 +51,14 @@ record-lines-spec =
     (tie.spec
     bytes-requires
     register-lines-requires
-    slice-aggregate-named
-    cast-named
-    named-requires
-    slice-aggregate-named-2
-    cast-named-2
-    named-requires-2
-    slice-aggregate-named-3
+    slice-aggregate-named-line
+    cast-named-line
+    named-line-requires
+    slice-aggregate-named-line-2
+    cast-named-line-2
+    named-line-requires-2
+    slice-aggregate-named-line-3
     bit-requires
-    named-requires-3
+    named-line-requires-3
     same-length
     returns)

@@ -15,8 +15,8 @@ room : (c : tie.Else1) → (let args = c .before .before .before .args in length
 room c =
     let start = c .before .before .before in
     let bound =
-        chip-text-bound (start .args .chip) (start .args .tally) (record-allowed (start .args .chip) (sym (c .before .of-record .ensures) ∙ c .if1 .left))
-        (omega (arith, start .good .0)) (omega (arith, start .good .0)) (omega (arith, start .good .1 .0)) (omega (arith, start .good .1 .0)) in
+    chip-text-bound (start .args .chip) (start .args .tally) (record-allowed (start .args .chip) (sym (c .before .of-record .ensures) ∙ c .if1 .left))
+    (omega (arith, start .good .0)) (omega (arith, start .good .0)) (omega (arith, start .good .1 .0)) (omega (arith, start .good .1 .0)) in
     omega (arith, bound)
 
 of-record-requires : tie.Need-of-record-requires
