@@ -25,6 +25,7 @@ CASES = [
     (["who", "8", "5"], CAPTURE), (["who", "8", "5"], b""), (["who", "--help"], b""),
     (["state"], CAPTURE), (["state"], b""), (["state", "--help"], b""),
     (["trace"], CAPTURE), (["trace"], b""), (["trace", "--help"], b""),
+    (["instructions"], b""), (["cases_run"], b""),
 ]
 SECONDS = 60
 

@@ -2,7 +2,7 @@
 use registers::names::SEPARATOR;
 use text::pieces::piece;
 
-pub fn row(k: usize) {
+pub fn row(k: usize, out: &mut [u8], at: usize) -> usize {
     let name = piece(
         b"NOP|Default H2 to H0|Instruction set|Select function|Set Y address of DDRAM|\
           Set X address of DDRAM|Display control|External display control|Bias system|Bias system 1/2|\
@@ -12,21 +12,21 @@ pub fn row(k: usize) {
         b'|',
         k,
     );
-    io::write_all(1, name);
+    print::bytes(name, out, at)
 }
 
 // A register by its place, then the targets that are none.
-pub fn target(k: usize) {
+pub fn target(k: usize, out: &mut [u8], at: usize) -> usize {
     let name = piece(
         b"H|DO|PD|V|D|E|MX|MY|PS|X|Y|BS|BS1/2|DP|PRS|HVE|S|TC|SM|VOP|GR|Grey 0|Grey 1|Grey 2|Grey 3|DOF|DM|EC|OC|GS|TRS",
         b'|',
         k,
     );
-    io::write_all(1, name);
+    print::bytes(name, out, at)
 }
 
 // The same registers as drawing lists name them.
-pub fn short(k: usize) {
+pub fn short(k: usize, out: &mut [u8], at: usize) -> usize {
     let names = registers::names::all();
-    io::write_all(1, piece(&names, SEPARATOR, k));
+    print::bytes(piece(&names, SEPARATOR, k), out, at)
 }

@@ -6,11 +6,10 @@ use Rattle.cases_run.proofs.answers.Statement.{statement}
 use Rattle.cases_run.proofs.answers.Tie as tie
 
 abbrev Inv-loop : tie.InvT-loop
-Inv-loop record₀ memory₀ writers₀ events i₀ «record» memory writers i =
-    (length «record» ≡ length record₀) × (length memory ≡ length memory₀) × (length writers ≡ length writers₀)
+Inv-loop record₀ memory₀ writers₀ events out₀ at next₀ i₀ «record» memory writers out next i = (length «record» ≡ length record₀) × (length memory ≡ length memory₀) × (length writers ≡ length writers₀) × (length out ≡ length out₀)
 
 abbrev μ-loop : tie.MeasureT-loop
-μ-loop record₀ memory₀ writers₀ events i₀ «record» memory writers i = length events - i
+μ-loop record₀ memory₀ writers₀ events out₀ at next₀ i₀ «record» memory writers out next i = length events - i
 
 loop-holds : tie.Need-loop-holds Inv-loop μ-loop
 loop-holds c = search needs
@@ -45,17 +44,23 @@ same-length-2 c = search needs
 same-length-3 : tie.Need-same-length-3 Inv-loop μ-loop
 same-length-3 c = search needs
 
-returns : tie.Need-returns Inv-loop μ-loop
-returns c = search needs
-
 same-length-4 : tie.Need-same-length-4 Inv-loop μ-loop
 same-length-4 c = search needs
+
+returns : tie.Need-returns Inv-loop μ-loop
+returns c = search needs
 
 same-length-5 : tie.Need-same-length-5 Inv-loop μ-loop
 same-length-5 c = search needs
 
 same-length-6 : tie.Need-same-length-6 Inv-loop μ-loop
 same-length-6 c = search needs
+
+same-length-7 : tie.Need-same-length-7 Inv-loop μ-loop
+same-length-7 c = search needs
+
+same-length-8 : tie.Need-same-length-8 Inv-loop μ-loop
+same-length-8 c = search needs
 
 returns-2 : tie.Need-returns-2 Inv-loop μ-loop
 returns-2 c = search needs
@@ -77,8 +82,10 @@ answers-spec =
     same-length
     same-length-2
     same-length-3
-    returns
     same-length-4
+    returns
     same-length-5
     same-length-6
+    same-length-7
+    same-length-8
     returns-2)

@@ -1,13 +1,15 @@
+use mathlib.Core.Path.{_≡_}
 use Prim.Native.Nat.{_-_}
 use borrow.Author.Needs.{needs}
+use lib.ListN.{length}
 use Rattle.cases_run.proofs.cells.Statement.{statement}
 use Rattle.cases_run.proofs.cells.Tie as tie
 
 abbrev Inv-loop : tie.InvT-loop
-Inv-loop memory writers place₀ place = Unit {0}
+Inv-loop memory writers out₀ at next₀ place₀ out next place = length out ≡ length out₀
 
 abbrev μ-loop : tie.MeasureT-loop
-μ-loop memory writers place₀ place = 1717 - place
+μ-loop memory writers out₀ at next₀ place₀ out next place = 1717 - place
 
 loop-holds : tie.Need-loop-holds Inv-loop μ-loop
 loop-holds c = search needs
@@ -33,6 +35,9 @@ loop-less c = search needs
 loop-again : tie.Need-loop-again Inv-loop μ-loop
 loop-again c = search needs
 
+same-length : tie.Need-same-length Inv-loop μ-loop
+same-length c = search needs
+
 returns : tie.Need-returns Inv-loop μ-loop
 returns c = search needs
 
@@ -50,4 +55,5 @@ cells-spec =
     add-place
     loop-less
     loop-again
+    same-length
     returns)

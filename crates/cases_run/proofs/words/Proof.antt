@@ -1,3 +1,4 @@
+use mathlib.Core.Path.{_≡_}
 use Prim.Native.Nat.{_-_}
 use borrow.Author.Needs.{needs}
 use lib.ListN.{length}
@@ -5,10 +6,10 @@ use Rattle.cases_run.proofs.words.Statement.{statement}
 use Rattle.cases_run.proofs.words.Tie as tie
 
 abbrev Inv-loop : tie.InvT-loop
-Inv-loop «record» i₀ i = Unit {0}
+Inv-loop «record» out₀ at next₀ i₀ out next i = length out ≡ length out₀
 
 abbrev μ-loop : tie.MeasureT-loop
-μ-loop «record» i₀ i = length «record» - i
+μ-loop «record» out₀ at next₀ i₀ out next i = length «record» - i
 
 loop-holds : tie.Need-loop-holds Inv-loop μ-loop
 loop-holds c = search needs
@@ -31,6 +32,9 @@ loop-less c = search needs
 loop-again : tie.Need-loop-again Inv-loop μ-loop
 loop-again c = search needs
 
+same-length : tie.Need-same-length Inv-loop μ-loop
+same-length c = search needs
+
 returns : tie.Need-returns Inv-loop μ-loop
 returns c = search needs
 
@@ -47,4 +51,5 @@ words-spec =
     add-i
     loop-less
     loop-again
+    same-length
     returns)

@@ -1,13 +1,15 @@
+use mathlib.Core.Path.{_≡_}
 use Prim.Native.Nat.{_≤_}
 use borrow.Author.Needs.{needs}
+use lib.ListN.{length}
 use Rattle.instructions.proofs.bits.Statement.{statement}
 use Rattle.instructions.proofs.bits.Tie as tie
 
 abbrev Inv-loop : tie.InvT-loop
-Inv-loop row code₀ fixed₀ place₀ code fixed place = place ≤ 8
+Inv-loop row out₀ at next₀ code₀ fixed₀ place₀ out next code fixed place = (place ≤ 8) × (length out ≡ length out₀)
 
 abbrev μ-loop : tie.MeasureT-loop
-μ-loop row code₀ fixed₀ place₀ code fixed place = place
+μ-loop row out₀ at next₀ code₀ fixed₀ place₀ out next code fixed place = place
 
 code-requires : tie.Need-code-requires Inv-loop μ-loop
 code-requires c κs = search needs
@@ -36,6 +38,9 @@ loop-less c = search needs
 loop-again : tie.Need-loop-again Inv-loop μ-loop
 loop-again c = search needs
 
+same-length : tie.Need-same-length Inv-loop μ-loop
+same-length c = search needs
+
 returns : tie.Need-returns Inv-loop μ-loop
 returns c = search needs
 
@@ -54,4 +59,5 @@ bits-spec =
     mul-fixed
     loop-less
     loop-again
+    same-length
     returns)

@@ -1,13 +1,15 @@
-use Prim.Native.Nat.{_≤_, _-_}
+use mathlib.Core.Path.{_≡_}
+use Prim.Native.Nat.{_-_, _≤_}
 use borrow.Author.Needs.{needs}
+use lib.ListN.{length}
 use Rattle.instructions.proofs.open_bit.Statement.{statement}
 use Rattle.instructions.proofs.open_bit.Tie as tie
 
 abbrev Inv-loop : tie.InvT-loop
-Inv-loop row place part₀ part = part ≤ 29
+Inv-loop row place out₀ at next₀ part₀ out next part = (part ≤ 29) × (length out ≡ length out₀)
 
 abbrev μ-loop : tie.MeasureT-loop
-μ-loop row place part₀ part = 29 - part
+μ-loop row place out₀ at next₀ part₀ out next part = 29 - part
 
 loop-holds : tie.Need-loop-holds Inv-loop μ-loop
 loop-holds c = search needs
@@ -24,10 +26,22 @@ loop-less c = search needs
 loop-again : tie.Need-loop-again Inv-loop μ-loop
 loop-again c = search needs
 
+same-length : tie.Need-same-length Inv-loop μ-loop
+same-length c = search needs
+
 returns : tie.Need-returns Inv-loop μ-loop
 returns c = search needs
 
 pub open-bit-spec : {M : Type 1} → statement M
 open-bit-spec =
     tie.close
-    (tie.spec Inv-loop μ-loop loop-holds field-if-requires add-part loop-less loop-again returns)
+    (tie.spec
+    Inv-loop
+    μ-loop
+    loop-holds
+    field-if-requires
+    add-part
+    loop-less
+    loop-again
+    same-length
+    returns)

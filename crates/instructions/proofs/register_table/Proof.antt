@@ -1,25 +1,27 @@
-use Prim.Native.Nat.{_≤_, _-_}
+use mathlib.Core.Path.{_≡_}
+use Prim.Native.Nat.{_-_, _≤_}
 use borrow.Author.Needs.{needs}
+use lib.ListN.{length}
 use Rattle.instructions.proofs.register_table.Statement.{statement}
 use Rattle.instructions.proofs.register_table.Tie as tie
 
 abbrev Inv-loop : tie.InvT-loop
-Inv-loop register₀ register = register ≤ 29
+Inv-loop out₀ at next₀ register₀ out next register = (register ≤ 29) × (length out ≡ length out₀)
 
 abbrev μ-loop : tie.MeasureT-loop
-μ-loop register₀ register = 29 - register
+μ-loop out₀ at next₀ register₀ out next register = 29 - register
 
-slice-aggregate-text : tie.Need-slice-aggregate-text Inv-loop μ-loop
-slice-aggregate-text c = search needs
+slice-aggregate-bytes : tie.Need-slice-aggregate-bytes Inv-loop μ-loop
+slice-aggregate-bytes c = search needs
 
-text-requires : tie.Need-text-requires Inv-loop μ-loop
-text-requires c κs = search needs
+bytes-requires : tie.Need-bytes-requires Inv-loop μ-loop
+bytes-requires c κs = search needs
 
-slice-aggregate-text-2 : tie.Need-slice-aggregate-text-2 Inv-loop μ-loop
-slice-aggregate-text-2 c = search needs
+slice-aggregate-bytes-2 : tie.Need-slice-aggregate-bytes-2 Inv-loop μ-loop
+slice-aggregate-bytes-2 c = search needs
 
-text-requires-2 : tie.Need-text-requires-2 Inv-loop μ-loop
-text-requires-2 c κs = search needs
+bytes-requires-2 : tie.Need-bytes-requires-2 Inv-loop μ-loop
+bytes-requires-2 c κs = search needs
 
 loop-holds : tie.Need-loop-holds Inv-loop μ-loop
 loop-holds c = search needs
@@ -36,6 +38,9 @@ loop-less c = search needs
 loop-again : tie.Need-loop-again Inv-loop μ-loop
 loop-again c = search needs
 
+same-length : tie.Need-same-length Inv-loop μ-loop
+same-length c = search needs
+
 returns : tie.Need-returns Inv-loop μ-loop
 returns c = search needs
 
@@ -45,13 +50,14 @@ register-table-spec =
     (tie.spec
     Inv-loop
     μ-loop
-    slice-aggregate-text
-    text-requires
-    slice-aggregate-text-2
-    text-requires-2
+    slice-aggregate-bytes
+    bytes-requires
+    slice-aggregate-bytes-2
+    bytes-requires-2
     loop-holds
     register-line-requires
     add-register
     loop-less
     loop-again
+    same-length
     returns)
