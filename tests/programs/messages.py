@@ -1,7 +1,7 @@
 """Themes of what the programs say: the exact bytes on standard error, and nothing on standard output.
 
-A program that reads one input, named by its last argument, has a row in READERS; one that does not, a
-theme of its own. Each program that is there has a row in USAGES.
+Each program has a row in USAGES. One that reads a capture, named by its last argument, has a row in
+CAPTURE_READERS too; for `draw`, `compare` and `search` there are themes of their own.
 """
 import os
 import tempfile
@@ -25,14 +25,15 @@ USAGES = {
 }
 
 # The words before the input's name.
-READERS = ["replay"], ["view"], ["draw", "2"], ["who", "8", "5"], ["state"], ["trace"]
+CAPTURE_READERS = [["replay"], ["view"], ["who", "8", "5"], ["state"], ["trace"]]
+READERS = CAPTURE_READERS + [["draw", "2"]]
 
 MOST_PATH = 4095
 
-MALFORMED = (b"no put, fill or set, a field too many or too few, an unknown register, a number not of 1 to 3 digits,"
-             b" or no newline at the end")
-OUT_OF_RANGE = (b"a column above 100, a bank above 16, ends the wrong way round, a byte above 255, a byte above 63"
-                b" where bank 16 is touched, or a value wider than its field")
+MALFORMED = (b"no put, fill or set, a field too many or too few, an unknown register, a number not of 1 to"
+             b" 3 digits, or no newline at the end")
+OUT_OF_RANGE = (b"a column above 100, a bank above 16, ends the wrong way round, a byte above 255, a byte"
+                b" above 63 where bank 16 is touched, or a value wider than its field")
 TOO_MANY_LINES = b"more than 4096 lines"
 
 
@@ -92,7 +93,8 @@ def wrong_numbers_of_words(sides):
 
 def two_inputs(sides):
     """Standard input is one of the two files of `compare`, and not both."""
-    sides.says(["compare", "-", "-"], wrong_call("compare", b"only one of the two can be standard input"), CAPTURE)
+    fault = b"only one of the two can be standard input"
+    sides.says(["compare", "-", "-"], wrong_call("compare", fault), CAPTURE)
 
 
 def pins(sides):
@@ -141,32 +143,34 @@ def long_names(sides):
 
 def odd_names(sides):
     """A message is one line, whatever the name is."""
-    for path, name in (("a\nb", b"a?b"), ("\x01\x1f\x7f \u00e4", b"??? \xc3\xa4"), ("\n", b"?"), ("refused\t1\n", b"refused?1?")):
+    for path, name in (("a\nb", b"a?b"), ("\x01\x1f\x7f \u00e4", b"??? \xc3\xa4"), ("\n", b"?"),
+                       ("refused\t1\n", b"refused?1?")):
         for words in with_input(path):
             sides.says(words, message(words[0], name, b"No such file or directory"), CAPTURE)
 
 
 def unread(sides):
     """Inputs that can't be read: a directory, by its name and as standard input."""
+    reason = b"Is a directory"
     with tempfile.TemporaryDirectory() as directory:
-        name = directory.encode()
-        for words in READERS:
-            sides.says(words + [directory], message(words[0], name, b"Is a directory"), CAPTURE)
-            for dash in ([], ["-"]):
-                sides.says_of_directory(words + dash, directory, message(words[0], b"standard input", b"Is a directory"))
         good = written(directory, "good", CAPTURE)
-        sides.says(["compare", directory, good], message("compare", name, b"Is a directory"))
-        sides.says(["compare", good, directory], message("compare", name, b"Is a directory"))
+        for words in READERS:
+            sides.says(words + [directory], message(words[0], directory.encode(), reason), CAPTURE)
+            for dash in ([], ["-"]):
+                sides.says_of_directory(words + dash, directory, message(words[0], b"standard input", reason))
+        for words in ([directory, good], [good, directory]):
+            sides.says(["compare"] + words, message("compare", directory.encode(), reason))
         for words in (["-", good], [good, "-"]):
-            sides.says_of_directory(["compare"] + words, directory, message("compare", b"standard input", b"Is a directory"))
+            sides.says_of_directory(["compare"] + words, directory, message("compare", b"standard input", reason))
 
 
 # ---- Refusals ----
 
 def refused_captures(sides):
     """A bad capture is told by the one line on standard output."""
-    for words in (["replay"], ["view"], ["who", "66", "100"], ["state"], ["trace"]):
+    for words in CAPTURE_READERS:
         sides.says(words, b"", b"pins\t0\n261\n", b"refused\t2\n")
+        sides.says(words + ["/dev/null"], b"", CAPTURE, b"refused\t1\n")
     sides.says(["compare", "-", "/dev/null"], b"", CAPTURE, b"refused\t2\t1\n")
 
 
@@ -174,15 +178,16 @@ def refused_lists(sides):
     """The line on standard output, and a sentence that says by which rule and where."""
     put = b"put\t5\t2\t167\n"
     cases = ((b"put\t5\t2\n", b"6", b"1", MALFORMED), (put + b"put\t5\t2\t167", b"6", b"2", MALFORMED),
-             (put * 11 + b"put\t101\t2\t1\n", b"7", b"12", OUT_OF_RANGE), (put * 4095 + b"set\tpd\t2\n", b"7", b"4096", OUT_OF_RANGE),
-             (put * 4097, b"9", b"0", TOO_MANY_LINES))
+             (put * 11 + b"put\t101\t2\t1\n", b"7", b"12", OUT_OF_RANGE),
+             (put * 4095 + b"set\tpd\t2\n", b"7", b"4096", OUT_OF_RANGE), (put * 4097, b"9", b"0", TOO_MANY_LINES))
     with tempfile.TemporaryDirectory() as directory:
         for text, number, line, rule in cases:
             path = written(directory, "a list", text)
             place = b"" if line == b"0" else b", line " + line
             output = b"refused\t" + number + b"\t" + line + b"\n"
             for words, name in (([path], path.encode()), ([], b"standard input"), (["-"], b"standard input")):
-                sides.says(["draw", "3"] + words, message("draw", name + place, b"refused by " + number, rule), text, output)
+                said = message("draw", name + place, b"refused by " + number, rule)
+                sides.says(["draw", "3"] + words, said, text, output)
 
 
 def long_lists(sides):

@@ -9,7 +9,7 @@ ghost use mathlib.Core.Bool.{true};
 ghost use mathlib.Core.Path.{_≡_};
 ghost use Prim.Native.Nat.{_≤_};
 ghost use lib.ListN.{length};
-ghost use Rattle.program_io.specs.Promises.{NothingPromised, Descriptor, Opened};
+ghost use Rattle.program_io.specs.Promises.{NothingPromised, Opened};
 
 // The first n bytes of the text on standard error, where it has them. The program's own name stands at their start, and a newline at their end.
 pub fn tell(text: &[u8], n: usize)
