@@ -14,6 +14,10 @@ either-bound false row h = h
 pub ram-bound : (my row : ℕ) → row ≤ 66 → ramRow my row ≤ 66
 ram-bound my row h = either-bound (eqb my 1) row h
 
+-- x is what the code found
+pub row-bound : {x : ℕ} (my row : ℕ) → row ≤ 66 → x ≡ ramRow my row → x ≤ 66
+row-bound my row h e = omega (arith, e, ram-bound my row h)
+
 -- a place is within the memories, and gives its bank and its column back
 pub place-of : (ram column p : ℕ) → ram ≤ 66 → column ≤ 100 → placeAt ram column ≡ p → (p < places) × (p / 101 ≡ ram / 4) × (p % 101 ≡ column)
 place-of ram column p h l e = (omega arith, omega arith, omega arith)

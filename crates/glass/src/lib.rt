@@ -1,13 +1,24 @@
 // The glass: what a row and column show, and which place of the memories that is. Nothing is changed.
 ghost use mathlib.Core.Path.{_≡_};
+ghost use Prim.Native.Nat.{_≤_};
+ghost use Rattle.glass.specs.Pixel.{placeAt};
 ghost use Rattle.glass.specs.Glass.{cellOf, glassOf};
 use crate::answer::Cell;
 use crate::answer::Shown;
 use registers::Chip;
 
 pub mod answer;
-mod pixel;
+pub mod pixel;
 pub mod refusal;
+
+// A bank has four rows. MX is not asked: it moves bytes as they are written.
+fn place_at(ram: usize, column: usize) -> usize
+    requires { ⌜ ram ≤ 66 ⌝ }
+    requires { ⌜ column ≤ 100 ⌝ }
+    ensures { λ r. ⌜ r ≡ placeAt ram column ⌝ }
+{
+    101 * (ram / 4) + column
+}
 
 // What a row and column of the glass show of the display memory.
 pub fn glass(chip: Chip, memory: &[u8], row: usize, column: usize) -> Shown
@@ -19,7 +30,7 @@ pub fn glass(chip: Chip, memory: &[u8], row: usize, column: usize) -> Shown
     }
     let registers = chip.registers;
     let ram = crate::pixel::ram_row(registers.my, row);
-    let at = crate::pixel::place_at(ram, column);
+    let at = place_at(ram, column);
     crate::pixel::shown(registers, ram, memory[at])
 }
 
@@ -33,6 +44,6 @@ pub fn place(chip: Chip, row: usize, column: usize) -> Cell
     }
     let registers = chip.registers;
     let ram = crate::pixel::ram_row(registers.my, row);
-    let at = crate::pixel::place_at(ram, column);
+    let at = place_at(ram, column);
     Cell::At(at as u16)
 }

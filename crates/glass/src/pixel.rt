@@ -1,35 +1,30 @@
 // One pixel: where its value stands in the memory, whether it is lit, by which grey register, and that register's level.
 ghost use mathlib.Core.Path.{_≡_};
-ghost use Prim.Native.Nat.{_<_, _≤_};
-ghost use Rattle.glass.specs.Pixel.{ramRow, placeAt, valueIn, isOff, isDriven, isUndriven, registerUsed, heldBy, levelFor, levelOf};
+ghost use Prim.Native.Nat.{_%_, _-_, _≤_};
+ghost use Rattle.glass.specs.Pixel.{ramRow, valueIn, isOff, isDriven, isUndriven, registerUsed, heldBy, levelFor, levelOf};
 ghost use Rattle.glass.specs.Glass.{shownOf};
 use crate::answer::Shown;
 use registers::Registers;
 
+// The row counted from the last one. A row past it is on no glass, and gives 0.
+fn mirrored(row: usize) -> usize
+    ensures { λ r. ⌜ r ≡ 66 - row ⌝ }
+{
+    if 66 < row { 0 } else { 66 - row }
+}
+
 // MY = 1 turns the glass upside down.
 pub fn ram_row(my: u8, row: usize) -> usize
-    requires { ⌜ row ≤ 66 ⌝ }
     ensures { λ r. ⌜ r ≡ ramRow my row ⌝ }
-    ensures { λ r. ⌜ r ≤ 66 ⌝ }
 {
-    if my == 1 { 66 - row } else { row }
+    if my == 1 { mirrored(row) } else { row }
 }
 
-// A bank has four rows. MX is not asked: it moves bytes as they are written.
-pub fn place_at(ram: usize, column: usize) -> usize
-    requires { ⌜ ram ≤ 66 ⌝ }
-    requires { ⌜ column ≤ 100 ⌝ }
-    ensures { λ r. ⌜ r ≡ placeAt ram column ⌝ }
+// The value of a RAM row in the byte at its place: two bits for each of a bank's four rows, the first row's lowest.
+pub fn value_in(byte: u8, ram: usize) -> u8
+    ensures { λ r. ⌜ r ≡ valueIn byte (ram % 4) ⌝ }
 {
-    101 * (ram / 4) + column
-}
-
-// Two bits for each of a bank's four rows, the first row's lowest.
-fn value_in(byte: u8, k: usize) -> u8
-    requires { ⌜ k < 4 ⌝ }
-    ensures { λ r. ⌜ r ≡ valueIn byte k ⌝ }
-{
-    match k {
+    match ram % 4 {
         0 => byte % 4,
         1 => byte / 4 % 4,
         2 => byte / 16 % 4,
@@ -107,7 +102,7 @@ pub fn shown(registers: Registers, ram: usize, byte: u8) -> Shown
     if is_undriven(registers.ps, registers.dp, ram) {
         return Shown::Undriven;
     }
-    let value = value_in(byte, ram % 4);
+    let value = value_in(byte, ram);
     let register = register_used(registers.d, registers.e, value);
     Shown::Level(level(registers, register))
 }

@@ -1,6 +1,7 @@
-use borrow.Author.Needs.{needs}
 use native.Mathlib.Omega.{arith}
+use Prim.Native.Nat.{_%_}
 use mathlib.Core.Path.{_≡_}
+use borrow.Author.Needs.{needs}
 use Rattle.glass.proofs.CodeWays.{value-0, value-1, value-2, value-3}
 use Rattle.glass.proofs.pixel.value_in.Statement.{statement}
 use Rattle.glass.proofs.pixel.value_in.Tie as tie
@@ -16,7 +17,7 @@ returns-3 c = rw (c .match .keys3) (value-2 _)
 
 returns-4 : tie.Need-returns-4
 returns-4 c =
-    let last : c .before .args .k ≡ 3 = omega arith in
+    let last : c .before .args .ram % 4 ≡ 3 = omega arith in
     rw last (value-3 _ (search needs))
 
 pub value-in-spec : {M : Type 1} → statement M
