@@ -7,8 +7,9 @@ use Rattle.registers.specs.Refusals.{lengthsRefusal}
 use Rattle.glass.specs.declared.answer.Cell.{Cell}
 use Rattle.glass.specs.declared.answer.Cell.the-variants as cell
 use Rattle.glass.specs.Glass.{cellOf}
+use Rattle.print.specs.declared.Written.{Written}
 use Rattle.print.specs.declared.Written.the-variants.{Refused}
-use Rattle.print.specs.Printed.{Output, output, wholeText}
+use Rattle.print.specs.Printed.{Output, output, wholeText, writtenNumber}
 use Rattle.capture.specs.declared.End.{End}
 use Rattle.capture.specs.Feeding.{meaning}
 use Rattle.capture.specs.Replay.{Replay, refusedBy, refusedAt, replayed}
@@ -23,6 +24,10 @@ toldAt c m w row column (cell.At p) out = wholeText 0 (originText (originAt c m 
 -- 1: a lent memory isn't 1,717 long; then 2: register record not allowed; 5: glass row above 66 or column above 100
 unfoldable pub originCall : Chip → List ℕ → List ℕ → ℕ → ℕ → List ℕ → Output
 originCall c m w row column out = textUnless (lengthsRefusal (length m) (length w)) out (toldAt c m w row column (cellOf c row column) out)
+
+-- document 01's number for the answer: 10 is an output shorter than needed
+abbrev pub originNumber : Written → ℕ
+originNumber = writtenNumber 10
 
 -- a capture that is refused says nothing of a pixel: its one line is all
 abbrev pub toldOf : Replay → ℕ → ℕ → List ℕ → Output
