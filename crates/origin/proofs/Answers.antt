@@ -1,9 +1,9 @@
 -- What is told of a pixel after a replayed capture, part by part.
-use mathlib.Core.Bool.{true, cond}
+use mathlib.Core.Bool.{true}
 use mathlib.Core.List.{List}
 use mathlib.Core.Logic.{_⊎_, inl, inr}
 use mathlib.Core.Path.{_≡_, refl, sym, ap, ap₂, _∙_}
-use Prim.Native.Nat.{ℕ, zero, suc, _+_, _*_, _/_, _%_, _≤_, _<_}
+use Prim.Native.Nat.{ℕ, zero, suc, _+_, _%_, _≤_, _<_}
 use native.Mathlib.Nat.{zero-add}
 use native.Mathlib.Omega.{arith}
 use borrow.Author.Tests.{eq-eqb, ne-eqb}
@@ -18,14 +18,14 @@ use Rattle.glass.specs.Pixel.{ramRow, valueIn, placeAt}
 use Rattle.glass.specs.When.{OnGlass}
 use Rattle.glass.proofs.Laws.{place-shown, place-within, stands-in-byte, tells}
 use Rattle.glass.proofs.Views.{my-bound}
-use Rattle.chip.specs.LastWriter.{Untouched, Written, LastStored, storedByte}
+use Rattle.chip.specs.LastWriter.{LastStored}
 use Rattle.chip.proofs.LastWriter.{same-last, same-byte}
 use Rattle.chip.specs.Promised.{Fit}
 use Rattle.capture.specs.Cells.{zeros, start, CellAfter}
 use Rattle.capture.specs.Where.{Replayed}
 use Rattle.capture.proofs.Laws.{end-fit, last-writers}
 use Rattle.origin.specs.declared.Origin.{Origin}
-use Rattle.origin.specs.Answer.{RowOf, Stands, NeverWritten, WrittenLast, Answers}
+use Rattle.origin.specs.Answer.{RowOf, NeverWritten, WrittenLast, Answers}
 use Rattle.origin.specs.Origin.{originAt, lineOf}
 use Rattle.origin.proofs.CaptureLines.{event-line}
 

@@ -27,7 +27,7 @@ use Rattle.capture.specs.declared.End.the-variants as ends
 use Rattle.capture.specs.Feeding.{meaning}
 use Rattle.capture.proofs.End.{the-type}
 use Rattle.capture.proofs.Refusals.{lengths-lent}
-use Rattle.listing.specs.ReplayText.{refusedCall, textUnless}
+use Rattle.listing.specs.ReplayText.{refusedCall}
 use Rattle.listing.proofs.CodeWays.{not-whole}
 use Rattle.origin.specs.declared.Origin.{Origin}
 use Rattle.origin.specs.Origin.{originAt, lineOf, shownText, numbered, pixelLines, cellLines, byteLines, originText}

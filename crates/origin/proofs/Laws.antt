@@ -1,35 +1,34 @@
 -- What is promised of the crew's question, in one place: read this file first, then specs/Answer.antt. The work stands in the files beside it.
-use mathlib.Core.List.{List, [], _∷_, _++_}
+use mathlib.Core.List.{List, [], List·Memᴰ}
 use mathlib.Core.Logic.{_⊎_, inl, inr, _↔_, ⊎-elim}
 use mathlib.Core.Path.{_≡_, refl, sym, ap, _∙_, subst}
-use Prim.Native.Nat.{ℕ, suc, _≤_}
+use Prim.Native.Nat.{ℕ, suc, _+_, _*_, _/_, _%_}
 use native.Mathlib.Omega.{arith}
-use lib.ListN.{length}
+use lib.ListN.{length, getD}
 use Rattle.registers.specs.declared.Chip.{Chip}
 use Rattle.registers.specs.Refusals.{lengthsRefusal}
-use Rattle.registers.specs.State.{State, state}
+use Rattle.registers.specs.State.{State}
 use Rattle.glass.specs.declared.answer.Cell.{Cell}
-use Rattle.glass.specs.declared.answer.Cell.the-variants as cell
+use Rattle.glass.specs.declared.answer.Cell.the-variants as cells
 use Rattle.glass.specs.declared.answer.Shown.the-variants as shown
 use Rattle.glass.specs.Glass.{cellOf}
 use Rattle.glass.specs.When.{OnGlass, PlaceWhen}
 use Rattle.glass.proofs.Laws.{place-refused-when}
 use Rattle.text.specs.Text.{bytes}
 use Rattle.print.specs.declared.Written.the-variants.{Refused}
-use Rattle.print.specs.Printed.{decimalOf, Output, output, wholeText, NumberSays}
+use Rattle.print.specs.Printed.{decimalOf, Output, wholeText, NumberSays}
 use Rattle.print.proofs.Laws.{number-says, refused-exactly}
 use Rattle.chip.specs.Promised.{Fit}
 use Rattle.capture.specs.declared.End.{End}
-use Rattle.capture.specs.declared.End.the-variants as ends
 use Rattle.capture.specs.Cells.{zeros}
 use Rattle.capture.specs.Feeding.{meaning}
 use Rattle.capture.specs.Replay.{Replay, refusedAt, replayed, replayOf}
 use Rattle.capture.specs.Where.{Lent, Replayed}
 use Rattle.capture.proofs.Laws.{is-replayed, end-fit}
 use Rattle.capture.proofs.Refusals.{by-lent, lent-passes, not-lent}
-use Rattle.listing.specs.Listing.{refusedOf}
+use Rattle.listing.specs.Listing.{cell, cellsOf, refusedOf}
 use Rattle.listing.specs.ReplayText.{textUnless}
-use Rattle.listing.proofs.Laws.{memories-of}
+use Rattle.listing.proofs.Laws.{memories-of, cells-exactly}
 use Rattle.origin.specs.declared.Origin.{Origin}
 use Rattle.origin.specs.Answer.{Answers, TellsWho}
 use Rattle.origin.specs.Call.{toldAt, originCall, originNumber, toldOf, originTextCall}
@@ -53,6 +52,25 @@ pub one-answer :
     (text : List ℕ) (pins : ℕ) (es : List ℕ) (end : State) (row column : ℕ) (o q : Origin)
     → Answers text pins es end row column o → Answers text pins es end row column q → o ≡ q
 one-answer text pins es end row column o q a b = same-answer text pins es end row column o q a b
+
+-- the listing of the same capture has the cell, with this byte and this event, exactly where an event is told
+pub as-listed :
+    (text : List ℕ) (end : State) (r : Replayed text zeros zeros end) (row column : ℕ) → OnGlass row column → let o = originOf end row column in
+    List·Memᴰ (cell (o .place % 101) (o .place / 101) (o .byte) (o .event)) (cellsOf (end .memory) (end .writers)) ↔ (o .event ≡ 0 → ⊥)
+as-listed text end r row column on =
+    let right = who text end r row column on in
+    let o : Origin = originOf end row column in
+    let exactly = cells-exactly (end .memory) (end .writers) (cell (o .place % 101) (o .place / 101) (o .byte) (o .event)) in
+    let place : 101 * (o .place / 101) + o .place % 101 ≡ o .place = omega arith in (
+      λ listed. exactly .0 listed .written,
+      λ some. exactly .1 (record {
+        column-there = omega arith;
+        bank-there = right .stands .bank-there;
+        written = some;
+        writer = ap (λ (p : ℕ). getD (end .writers) p 0) place;
+        stored = ap (λ (p : ℕ). getD (end .memory) p 0) place;
+      }),
+    )
 
 -- and that is what is printed of it, whole where there is room
 pub who-prints :
@@ -90,9 +108,9 @@ refusal-prints m w out e n s row column lent same = rw (lent-passes m w lent, sa
 -- ---- refusals by a number
 
 module _ (c : Chip) (m w : List ℕ) (row column : ℕ) (out : List ℕ) where
-  told-refused : (found : Cell) (k : ℕ) → toldAt c m w row column found out .answer ≡ Refused (suc k) → found ≡ cell.Refused (suc k)
-  told-refused (cell.Refused n) k e = let same : n ≡ suc k = cc e in ap cell.Refused same
-  told-refused (cell.At p) k e =
+  told-refused : (found : Cell) (k : ℕ) → toldAt c m w row column found out .answer ≡ Refused (suc k) → found ≡ cells.Refused (suc k)
+  told-refused (cells.Refused n) k e = let same : n ≡ suc k = cc e in ap cells.Refused same
+  told-refused (cells.At p) k e =
       let none = refused-exactly 0 (originText (originAt c m w row column p)) out (suc k) .0 e .0 in
       absurd (omega (arith, none))
 

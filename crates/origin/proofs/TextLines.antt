@@ -12,7 +12,7 @@ use Rattle.print.specs.Chosen.{linesOf, line}
 use Rattle.print.specs.Printed.{decimalOf}
 use Rattle.print.proofs.Digits.{number-free}
 use Rattle.origin.specs.declared.Origin.{Origin}
-use Rattle.origin.specs.Origin.{lineOf, shownText, pixelFields, cellFields, byteFields, pixelLines, cellLines, byteLines, originText}
+use Rattle.origin.specs.Origin.{lineOf, shownText, pixelFields, cellFields, byteFields, cellLines, byteLines, originText}
 
 -- no newline in any line's fields
 abbrev Free : List (List (List ℕ)) → Type 0

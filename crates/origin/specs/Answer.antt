@@ -16,7 +16,6 @@ use Rattle.glass.specs.When.{Told}
 use Rattle.chip.specs.LastWriter.{NoneStored, LastStored, storedByte}
 use Rattle.print.specs.Printed.{Output, wholeText}
 use Rattle.capture.specs.Cells.{start}
-use Rattle.capture.specs.Where.{Replayed}
 use Rattle.origin.specs.declared.Origin.{Origin}
 use Rattle.origin.specs.Origin.{lineOf, originText}
 
