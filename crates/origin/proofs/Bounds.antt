@@ -59,7 +59,8 @@ module _ (o : Origin) (fits : Fits o) where
   pixel-lines-bound =
       omega (
         arith,
-        three-lines (line (bytes "row" ∷ decimalOf (o .row) ∷ [])) (line (bytes "column" ∷ decimalOf (o .column) ∷ [])) (line (bytes "shows" ∷ shownText (o .shows) ∷ [])),
+        three-lines (line (bytes "row" ∷ decimalOf (o .row) ∷ [])) (line (bytes "column" ∷ decimalOf (o .column) ∷ []))
+            (line (bytes "shows" ∷ shownText (o .shows) ∷ [])),
         number-bound (bytes "row") 19 (o .row) (omega (arith, fits .row)),
         number-bound (bytes "column") 19 (o .column) (omega (arith, fits .column)),
         line-length (bytes "shows") (shownText (o .shows)),

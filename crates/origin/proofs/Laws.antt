@@ -53,25 +53,6 @@ pub one-answer :
     → Answers text pins es end row column o → Answers text pins es end row column q → o ≡ q
 one-answer text pins es end row column o q a b = same-answer text pins es end row column o q a b
 
--- the listing of the same capture has the cell, with this byte and this event, exactly where an event is told
-pub as-listed :
-    (text : List ℕ) (end : State) (r : Replayed text zeros zeros end) (row column : ℕ) → OnGlass row column → let o = originOf end row column in
-    List·Memᴰ (cell (o .place % 101) (o .place / 101) (o .byte) (o .event)) (cellsOf (end .memory) (end .writers)) ↔ (o .event ≡ 0 → ⊥)
-as-listed text end r row column on =
-    let right = who text end r row column on in
-    let o : Origin = originOf end row column in
-    let exactly = cells-exactly (end .memory) (end .writers) (cell (o .place % 101) (o .place / 101) (o .byte) (o .event)) in
-    let place : 101 * (o .place / 101) + o .place % 101 ≡ o .place = omega arith in (
-      λ listed. exactly .0 listed .written,
-      λ some. exactly .1 (record {
-        column-there = omega arith;
-        bank-there = right .stands .bank-there;
-        written = some;
-        writer = ap (λ (p : ℕ). getD (end .writers) p 0) place;
-        stored = ap (λ (p : ℕ). getD (end .memory) p 0) place;
-      }),
-    )
-
 -- and that is what is printed of it, whole where there is room
 pub who-prints :
     (text m w out : List ℕ) (e : End) (end : State) (row column : ℕ) → OnGlass row column
@@ -105,6 +86,25 @@ pub refusal-prints :
 unfolding originTextCall
 refusal-prints m w out e n s row column lent same = rw (lent-passes m w lent, same)
 
+-- the listing of the same capture has the cell, with this byte and this event, exactly where an event is told
+pub as-listed :
+    (text : List ℕ) (end : State) (r : Replayed text zeros zeros end) (row column : ℕ) → OnGlass row column → let o = originOf end row column in
+    List·Memᴰ (cell (o .place % 101) (o .place / 101) (o .byte) (o .event)) (cellsOf (end .memory) (end .writers)) ↔ (o .event ≡ 0 → ⊥)
+as-listed text end r row column on =
+    let right = who text end r row column on in
+    let o : Origin = originOf end row column in
+    let exactly = cells-exactly (end .memory) (end .writers) (cell (o .place % 101) (o .place / 101) (o .byte) (o .event)) in
+    let place : 101 * (o .place / 101) + o .place % 101 ≡ o .place = omega arith in (
+      λ listed. exactly .0 listed .written,
+      λ some. exactly .1 (record {
+        column-there = omega arith;
+        bank-there = right .stands .bank-there;
+        written = some;
+        writer = ap (λ (p : ℕ). getD (end .writers) p 0) place;
+        stored = ap (λ (p : ℕ). getD (end .memory) p 0) place;
+      }),
+    )
+
 -- ---- refusals by a number
 
 module _ (c : Chip) (m w : List ℕ) (row column : ℕ) (out : List ℕ) where
@@ -114,30 +114,28 @@ module _ (c : Chip) (m w : List ℕ) (row column : ℕ) (out : List ℕ) where
       let none = refused-exactly 0 (originText (originAt c m w row column p)) out (suc k) .0 e .0 in
       absurd (omega (arith, none))
 
-  -- 1 exactly where a memory has another length; then 2 and 5 exactly as the glass gives them for the place: a record that is not allowed, a row above 66 or
-  -- a column above 100
+  -- what is answered where the lengths are refused by x, 0 being none
+  abbrev called : ℕ → Output
+  called x = textUnless x out (toldAt c m w row column (cellOf c row column) out)
+
+  as-the-glass : (k : ℕ) → (called 0 .answer ≡ Refused (suc k)) ↔ PlaceWhen c row column (suc k)
+  as-the-glass k =
+      (λ e. place-refused-when c row column k .0 (told-refused (cellOf c row column) k e), λ h. rw (place-refused-when c row column k .1 h))
+
+  by-length : (k : ℕ) → (called 1 .answer ≡ Refused (suc k)) ↔ (suc k ≡ 1)
+  by-length k = (λ e. cc e, λ h. rw h)
+
+  -- 1 exactly where a memory has another length; then 2 and 5 exactly as the glass gives them for the place: a record that is not allowed, a row above
+  -- 66 or a column above 100
   pub origin-refused-exactly :
       (k : ℕ)
       → (originCall c m w row column out .answer ≡ Refused (suc k))
       ↔ (((suc k ≡ 1) × (Lent m w → ⊥)) ⊎ (Lent m w × PlaceWhen c row column (suc k)))
   unfolding originCall
-  origin-refused-exactly k = (λ e. ⊎-elim (λ lent. inr (lent, passed lent e)) (λ n. inl (wrong n e, n)) (by-lent m w), ⊎-elim back-1 back)
-    where
-      passed : Lent m w → textUnless (lengthsRefusal (length m) (length w)) out (toldAt c m w row column (cellOf c row column) out) .answer ≡ Refused (suc k)
-          → PlaceWhen c row column (suc k)
-      passed lent e = place-refused-when c row column k .0 (told-refused (cellOf c row column) k (rw (lent-passes m w lent) at e))
-
-      wrong : (Lent m w → ⊥) → textUnless (lengthsRefusal (length m) (length w)) out (toldAt c m w row column (cellOf c row column) out) .answer ≡ Refused (suc k)
-          → suc k ≡ 1
-      wrong n e = let same : Refused 1 ≡ Refused (suc k) = rw (not-lent m w n) at e in cc same
-
-      back-1 : (suc k ≡ 1) × (Lent m w → ⊥)
-          → textUnless (lengthsRefusal (length m) (length w)) out (toldAt c m w row column (cellOf c row column) out) .answer ≡ Refused (suc k)
-      back-1 h = rw (not-lent m w (h .1), h .0)
-
-      back : Lent m w × PlaceWhen c row column (suc k)
-          → textUnless (lengthsRefusal (length m) (length w)) out (toldAt c m w row column (cellOf c row column) out) .answer ≡ Refused (suc k)
-      back h = rw (lent-passes m w (h .0), place-refused-when c row column k .1 (h .1))
+  origin-refused-exactly k = (
+    λ e. ⊎-elim (λ lent. inr (lent, as-the-glass k .0 (rw (lent-passes m w lent) at e))) (λ n. inl (by-length k .0 (rw (not-lent m w n) at e), n)) (by-lent m w),
+    ⊎-elim (λ h. rw (not-lent m w (h .1)) (by-length k .1 (h .0))) (λ h. rw (lent-passes m w (h .0)) (as-the-glass k .1 (h .1))),
+  )
 
 -- the number of what is printed of a replayed capture: 10 exactly where the output is shorter than the text, 0 exactly where the text was written
 pub who-number-exactly :

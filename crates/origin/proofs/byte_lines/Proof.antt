@@ -52,8 +52,8 @@ returns c =
     let value = event .before .before .before .before .before in
     let byte = value .before .before .before .before .before .before in
     let start = byte .before .before .before .before .before in
-    byte-wrote (start .args .origin) (omega (arith, start .good .1 .0)) (byte .number-line .ensures) (value .number-line2 .ensures) (event .number-line3 .ensures)
-    (name .bytes .ensures) (number .line-number .ensures) (end .byte .ensures)
+    byte-wrote (start .args .origin) (omega (arith, start .good .1 .0)) (byte .number-line .ensures) (value .number-line2 .ensures)
+    (event .number-line3 .ensures) (name .bytes .ensures) (number .line-number .ensures) (end .byte .ensures)
 
 pub byte-lines-spec : {M : Type 1} → statement M
 byte-lines-spec =

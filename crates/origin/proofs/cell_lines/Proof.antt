@@ -38,8 +38,8 @@ returns c =
     let bank = column .before .before .before .before .before in
     let ram = bank .before .before .before .before .before in
     let start = ram .before .before .before .before in
-    cell-wrote (start .args .origin) (omega (arith, start .good .1 .0)) (ram .number-line .ensures) (bank .number-line2 .ensures) (column .number-line3 .ensures)
-    (place .number-line4 .ensures)
+    cell-wrote (start .args .origin) (omega (arith, start .good .1 .0)) (ram .number-line .ensures) (bank .number-line2 .ensures)
+    (column .number-line3 .ensures) (place .number-line4 .ensures)
 
 pub cell-lines-spec : {M : Type 1} → statement M
 cell-lines-spec =

@@ -64,7 +64,8 @@ returns-3 c =
     let args = test .before .before .before .before .before .args in
     told-known (args .chip) (args .memory .now) (args .writers .now) (args .row) (args .column) (args .out .now) _ _ _ _ (test .before .of-lengths .ensures)
     (test .if1 .left) (known .cell2 .given .1) (found .place .ensures)
-    (told-at (args .chip) (args .memory .now) (args .writers .now) (args .row) (args .column) (args .out .now) _ _ _ (origin .origin-at .ensures) (told .told .ensures))
+    (told-at (args .chip) (args .memory .now) (args .writers .now) (args .row) (args .column) (args .out .now) _ _ _ (origin .origin-at .ensures)
+    (told .told .ensures))
 
 pub of-pixel-spec : {M : Type 1} → statement M
 of-pixel-spec =

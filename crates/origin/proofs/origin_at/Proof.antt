@@ -24,7 +24,8 @@ shared-slice-read-event c = search needs
 returns : tie.Need-returns
 returns c =
     let args = c .before .before .before .before .before .before .before .before .args in
-    all-told (args .chip) (args .memory .now) (args .writers .now) (args .row) (args .column) (args .place) (c .before .before .before .before .glass .ensures) (c .before .before .before .ram-row .ensures) (c .before .value-in .ensures)
+    all-told (args .chip) (args .memory .now) (args .writers .now) (args .row) (args .column) (args .place)
+    (c .before .before .before .before .glass .ensures) (c .before .before .before .ram-row .ensures) (c .before .value-in .ensures)
 
 pub origin-at-spec : {M : Type 1} → statement M
 origin-at-spec =

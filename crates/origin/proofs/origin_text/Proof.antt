@@ -30,7 +30,8 @@ returns-2 c =
     let match = c .before .before .before .before .before in
     let test = match .before in
     let args = test .before .before .before .before .before .args in
-    told-passed (args .end) (args .memory .now) (args .writers .now) (args .row) (args .column) (args .out .now) _ _ (test .before .of-lengths .ensures) (test .if1 .left)
+    told-passed (args .end) (args .memory .now) (args .writers .now) (args .row) (args .column) (args .out .now) _ _ (test .before .of-lengths .ensures)
+    (test .if1 .left)
     (c .before .before .refused .ensures
     ∙ refused-told (args .end) (args .memory .now) (args .writers .now) (args .row) (args .column) (args .out .now) (match .match .keys2))
 
@@ -45,7 +46,8 @@ returns-3 c =
     let whole = c .before .before .before .before .before in
     let test = whole .before .before in
     let args = test .before .before .before .before .before .args in
-    told-passed (args .end) (args .memory .now) (args .writers .now) (args .row) (args .column) (args .out .now) _ _ (test .before .of-lengths .ensures) (test .if1 .left)
+    told-passed (args .end) (args .memory .now) (args .writers .now) (args .row) (args .column) (args .out .now) _ _ (test .before .of-lengths .ensures)
+    (test .if1 .left)
     (whole-told _ (args .end) (args .memory .now) (args .writers .now) (args .row) (args .column) (args .out .now) _ (whole .end .given .1)
     (c .before .before .of-pixel .ensures))
 
