@@ -21,7 +21,7 @@ use Rattle.glass.proofs.Views.{found-at}
 use Rattle.text.specs.Text.{bytes}
 use Rattle.print.specs.Chosen.{linesOf, line}
 use Rattle.print.specs.Printed.{decimalOf, top, Wrote, Output, wholeText}
-use Rattle.print.proofs.Writing.{wrote-then, wrote-same, wrote-length}
+use Rattle.print.proofs.Writing.{wrote-then, wrote-three, wrote-same, wrote-length}
 use Rattle.capture.specs.declared.End.{End}
 use Rattle.capture.specs.declared.End.the-variants as ends
 use Rattle.capture.specs.Feeding.{meaning}
@@ -49,8 +49,7 @@ pub number-wrote :
     → Wrote m j (9 ∷ []) o k
     → Wrote o k (decimalOf x ++ (10 ∷ [])) r n
     → Wrote l i (line (name ∷ decimalOf x ∷ [])) r n
-number-wrote name x hl a b c =
-    wrote-same (two-fields name (decimalOf x)) (wrote-then hl a (wrote-then (omega (arith, wrote-length a)) b c))
+number-wrote name x hl a b c = wrote-same (two-fields name (decimalOf x)) (wrote-three hl a b c)
 
 -- a name with its tab, words, a newline
 words-wrote :
@@ -60,12 +59,7 @@ words-wrote :
     → Wrote m j words o k
     → Wrote o k (10 ∷ []) r n
     → Wrote l i (line (name ∷ words ∷ [])) r n
-words-wrote name words hl a b c =
-    wrote-same (named-fields name words) (wrote-then hl a (wrote-then (omega (arith, wrote-length a)) b c))
-
--- what is shown, where the code knows which of the four it is
-pub shown-wrote : {l m : List ℕ} {i j : ℕ} (known s : Shown) → s ≡ known → Wrote l i (shownText known) m j → Wrote l i (shownText s) m j
-shown-wrote known s e w = wrote-same (ap shownText (sym e)) w
+words-wrote name words hl a b c = wrote-same (named-fields name words) (wrote-three hl a b c)
 
 -- the line of no event, and of one
 pub no-line : {l m : List ℕ} {i j : ℕ} (event : ℕ) → event ≡ 0 → Wrote l i (decimalOf 0) m j → Wrote l i (decimalOf (lineOf event)) m j
@@ -83,9 +77,7 @@ three-wrote :
     → Wrote m j (line b) o k
     → Wrote o k (line c) r n
     → Wrote l i (linesOf line (a ∷ b ∷ c ∷ [])) r n
-three-wrote a b c hl u v w =
-    wrote-same (ap (λ (x : List ℕ). line a ++ (line b ++ x)) (sym (append-nil (line c))))
-    (wrote-then hl u (wrote-then (omega (arith, wrote-length u)) v w))
+three-wrote a b c hl u v w = wrote-same (ap (λ (x : List ℕ). line a ++ (line b ++ x)) (sym (append-nil (line c)))) (wrote-three hl u v w)
 
 four-wrote :
     {l m o p r : List ℕ} {i j k n e : ℕ} (a b c d : List (List ℕ))

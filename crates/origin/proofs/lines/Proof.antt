@@ -1,5 +1,5 @@
 use native.Mathlib.Omega.{arith}
-use Rattle.print.proofs.Writing.{wrote-then, wrote-length}
+use Rattle.print.proofs.Writing.{wrote-three}
 use Rattle.origin.specs.Origin.{originText}
 use borrow.Author.Needs.{needs}
 use Rattle.origin.proofs.lines.Statement.{statement}
@@ -24,9 +24,7 @@ returns c =
     let cell = byte .before .before .before .before in
     let pixel = cell .before .before .before .before in
     let start = pixel .before .before .before in
-    let first = pixel .pixel-lines .ensures in
-    wrote-then (omega (arith, start .good .1 .0)) first
-    (wrote-then (omega (arith, start .good .1 .0, wrote-length first)) (cell .cell-lines .ensures) (byte .byte-lines .ensures))
+    wrote-three (omega (arith, start .good .1 .0)) (pixel .pixel-lines .ensures) (cell .cell-lines .ensures) (byte .byte-lines .ensures)
 
 pub lines-spec : {M : Type 1} → statement M
 lines-spec =

@@ -1,6 +1,6 @@
 use native.Mathlib.Omega.{arith}
-use Rattle.print.proofs.Writing.{wrote-then}
-use Rattle.origin.proofs.CodeWays.{shown-wrote}
+use Rattle.print.proofs.Writing.{wrote-then, wrote-known}
+use Rattle.origin.specs.Origin.{shownText}
 use borrow.Author.Needs.{needs}
 use Rattle.origin.proofs.shown_words.Statement.{statement}
 use Rattle.origin.proofs.shown_words.Tie as tie
@@ -56,25 +56,25 @@ returns c =
     let word = number .before .before .before .before in
     let told = word .before .before .before .before in
     let start = told .before .before .before in
-    shown-wrote _ _ (told .shows .given .1) (wrote-then (omega (arith, start .good .1 .0)) (word .bytes .ensures) (number .decimal .ensures))
+    wrote-known shownText _ (told .shows .given .1) (wrote-then (omega (arith, start .good .1 .0)) (word .bytes .ensures) (number .decimal .ensures))
 
 same-length-2 : tie.Need-same-length-2
 same-length-2 c = search needs
 
 returns-2 : tie.Need-returns-2
-returns-2 c = shown-wrote _ _ (c .before .before .before .before .before .enum-told .given .1) (c .before .before .bytes2 .ensures)
+returns-2 c = wrote-known shownText _ (c .before .before .before .before .before .enum-told .given .1) (c .before .before .bytes2 .ensures)
 
 same-length-3 : tie.Need-same-length-3
 same-length-3 c = search needs
 
 returns-3 : tie.Need-returns-3
-returns-3 c = shown-wrote _ _ (c .before .before .before .before .before .enum-told2 .given .1) (c .before .before .bytes3 .ensures)
+returns-3 c = wrote-known shownText _ (c .before .before .before .before .before .enum-told2 .given .1) (c .before .before .bytes3 .ensures)
 
 same-length-4 : tie.Need-same-length-4
 same-length-4 c = search needs
 
 returns-4 : tie.Need-returns-4
-returns-4 c = shown-wrote _ _ (c .before .before .before .before .before .enum-told3 .given .1) (c .before .before .bytes4 .ensures)
+returns-4 c = wrote-known shownText _ (c .before .before .before .before .before .enum-told3 .given .1) (c .before .before .bytes4 .ensures)
 
 pub shown-words-spec : {M : Type 1} → statement M
 shown-words-spec =
