@@ -35,21 +35,8 @@ use Rattle.origin.specs.Call.{toldAt, originCall, toldOf, originTextCall
 
 -- ---- one line
 
-two-fields : (a b : List ℕ) → a ++ ((9 ∷ []) ++ (b ++ (10 ∷ []))) ≡ (a ++ 9 ∷ b) ++ (10 ∷ [])
-two-fields a b = simp append-assoc
-
 named-fields : (a b : List ℕ) → (a ++ (9 ∷ [])) ++ (b ++ (10 ∷ [])) ≡ (a ++ 9 ∷ b) ++ (10 ∷ [])
 named-fields a b = simp append-assoc
-
--- a name, a tab, a number with its newline
-pub number-wrote :
-    {l m o r : List ℕ} {i j k n : ℕ} (name : List ℕ) (x : ℕ)
-    → length l ≤ top
-    → Wrote l i name m j
-    → Wrote m j (9 ∷ []) o k
-    → Wrote o k (decimalOf x ++ (10 ∷ [])) r n
-    → Wrote l i (line (name ∷ decimalOf x ∷ [])) r n
-number-wrote name x hl a b c = wrote-same (two-fields name (decimalOf x)) (wrote-three hl a b c)
 
 -- a name with its tab, words, a newline
 words-wrote :

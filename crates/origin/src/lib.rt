@@ -1,10 +1,8 @@
 // The crew's own question: a pixel of the glass is pointed at, and what is told is where it stands and which event wrote it.
-ghost use mathlib.Core.List.{[], _∷_};
 ghost use mathlib.Core.Path.{_≡_};
 ghost use Prim.Native.Nat.{_<_};
 ghost use lib.ListN.{length};
 ghost use Rattle.glass.specs.When.{Told};
-ghost use Rattle.print.specs.Chosen.{line};
 ghost use Rattle.print.specs.Printed.{decimalOf, Wrote, output, wholeText};
 ghost use Rattle.origin.specs.Origin.{lineOf, originAt, shownText, pixelLines, cellLines, byteLines, originText};
 ghost use Rattle.origin.specs.Call.{originCall, originTextCall};
@@ -13,8 +11,6 @@ use glass::answer::Cell;
 use glass::answer::Shown;
 use print::Written;
 use registers::Chip;
-
-const TAB: u8 = 9;
 
 const NEWLINE: u8 = 10;
 
@@ -61,15 +57,6 @@ fn origin_at(
     }
 }
 
-// One line: its name, and a number.
-fn number_line(name: &[u8], n: u64, out: &mut [u8], at: usize) -> usize
-    ensures { λ r. ⌜ Wrote (now (out .entry)) at (line (now (name .entry) ∷ decimalOf n ∷ [])) (now (out .exit)) r ⌝ }
-{
-    let named = print::bytes(name, out, at);
-    let parted = print::byte(TAB, out, named);
-    print::field(n, NEWLINE, out, parted)
-}
-
 // What is shown, in words.
 fn shown_words(shows: Shown, out: &mut [u8], at: usize) -> usize
     ensures { λ r. ⌜ Wrote (now (out .entry)) at (shownText shows) (now (out .exit)) r ⌝ }
@@ -100,8 +87,8 @@ fn pixel_lines(origin: Origin, out: &mut [u8], at: usize) -> usize
     ensures { λ r. ⌜ Wrote (now (out .entry)) at (pixelLines origin) (now (out .exit)) r ⌝ }
 {
     let shows = origin.shows;
-    let row = number_line(b"row", origin.row as u64, out, at);
-    let column = number_line(b"column", origin.column as u64, out, row);
+    let row = print::named_line(b"row", origin.row as u64, out, at);
+    let column = print::named_line(b"column", origin.column as u64, out, row);
     let name = print::bytes(b"shows\t", out, column);
     let words = shown_words(shows, out, name);
     print::byte(NEWLINE, out, words)
@@ -112,19 +99,19 @@ fn cell_lines(origin: Origin, out: &mut [u8], at: usize) -> usize
     ensures { λ r. ⌜ Wrote (now (out .entry)) at (cellLines origin) (now (out .exit)) r ⌝ }
 {
     let place = origin.place as u64;
-    let ram = number_line(b"ram row", origin.ram as u64, out, at);
-    let bank = number_line(b"bank", place / 101, out, ram);
-    let column = number_line(b"cell column", place % 101, out, bank);
-    number_line(b"place", place, out, column)
+    let ram = print::named_line(b"ram row", origin.ram as u64, out, at);
+    let bank = print::named_line(b"bank", place / 101, out, ram);
+    let column = print::named_line(b"cell column", place % 101, out, bank);
+    print::named_line(b"place", place, out, column)
 }
 
 // What stands there: the byte, the pixel's two bits of it, and the event that wrote it, with its line.
 fn byte_lines(origin: Origin, out: &mut [u8], at: usize) -> usize
     ensures { λ r. ⌜ Wrote (now (out .entry)) at (byteLines origin) (now (out .exit)) r ⌝ }
 {
-    let byte = number_line(b"byte", origin.byte as u64, out, at);
-    let value = number_line(b"value", origin.value as u64, out, byte);
-    let event = number_line(b"event", origin.event, out, value);
+    let byte = print::named_line(b"byte", origin.byte as u64, out, at);
+    let value = print::named_line(b"value", origin.value as u64, out, byte);
+    let event = print::named_line(b"event", origin.event, out, value);
     let name = print::bytes(b"line\t", out, event);
     let number = line_number(origin.event, out, name);
     print::byte(NEWLINE, out, number)

@@ -4,29 +4,29 @@ use borrow.Author.Needs.{needs}
 use Rattle.origin.proofs.byte_lines.Statement.{statement}
 use Rattle.origin.proofs.byte_lines.Tie as tie
 
-slice-aggregate-number-line : tie.Need-slice-aggregate-number-line
-slice-aggregate-number-line c = search needs
+slice-aggregate-named-line : tie.Need-slice-aggregate-named-line
+slice-aggregate-named-line c = search needs
 
-cast-number-line : tie.Need-cast-number-line
-cast-number-line c = search needs
+cast-named-line : tie.Need-cast-named-line
+cast-named-line c = search needs
 
-number-line-requires : tie.Need-number-line-requires
-number-line-requires c κs = search needs
+named-line-requires : tie.Need-named-line-requires
+named-line-requires c κs = search needs
 
-slice-aggregate-number-line-2 : tie.Need-slice-aggregate-number-line-2
-slice-aggregate-number-line-2 c = search needs
+slice-aggregate-named-line-2 : tie.Need-slice-aggregate-named-line-2
+slice-aggregate-named-line-2 c = search needs
 
-cast-number-line-2 : tie.Need-cast-number-line-2
-cast-number-line-2 c = search needs
+cast-named-line-2 : tie.Need-cast-named-line-2
+cast-named-line-2 c = search needs
 
-number-line-requires-2 : tie.Need-number-line-requires-2
-number-line-requires-2 c κs = search needs
+named-line-requires-2 : tie.Need-named-line-requires-2
+named-line-requires-2 c κs = search needs
 
-slice-aggregate-number-line-3 : tie.Need-slice-aggregate-number-line-3
-slice-aggregate-number-line-3 c = search needs
+slice-aggregate-named-line-3 : tie.Need-slice-aggregate-named-line-3
+slice-aggregate-named-line-3 c = search needs
 
-number-line-requires-3 : tie.Need-number-line-requires-3
-number-line-requires-3 c κs = search needs
+named-line-requires-3 : tie.Need-named-line-requires-3
+named-line-requires-3 c κs = search needs
 
 slice-aggregate-bytes : tie.Need-slice-aggregate-bytes
 slice-aggregate-bytes c = search needs
@@ -52,21 +52,21 @@ returns c =
     let value = event .before .before .before .before .before in
     let byte = value .before .before .before .before .before .before in
     let start = byte .before .before .before .before .before in
-    byte-wrote (start .args .origin) (omega (arith, start .good .1 .0)) (byte .number-line .ensures) (value .number-line2 .ensures)
-    (event .number-line3 .ensures) (name .bytes .ensures) (number .line-number .ensures) (end .byte .ensures)
+    byte-wrote (start .args .origin) (omega (arith, start .good .1 .0)) (byte .named-line .ensures) (value .named-line2 .ensures)
+    (event .named-line3 .ensures) (name .bytes .ensures) (number .line-number .ensures) (end .byte .ensures)
 
 pub byte-lines-spec : {M : Type 1} → statement M
 byte-lines-spec =
     tie.close
     (tie.spec
-    slice-aggregate-number-line
-    cast-number-line
-    number-line-requires
-    slice-aggregate-number-line-2
-    cast-number-line-2
-    number-line-requires-2
-    slice-aggregate-number-line-3
-    number-line-requires-3
+    slice-aggregate-named-line
+    cast-named-line
+    named-line-requires
+    slice-aggregate-named-line-2
+    cast-named-line-2
+    named-line-requires-2
+    slice-aggregate-named-line-3
+    named-line-requires-3
     slice-aggregate-bytes
     bytes-requires
     line-number-requires

@@ -4,17 +4,17 @@ use borrow.Author.Needs.{needs}
 use Rattle.origin.proofs.pixel_lines.Statement.{statement}
 use Rattle.origin.proofs.pixel_lines.Tie as tie
 
-slice-aggregate-number-line : tie.Need-slice-aggregate-number-line
-slice-aggregate-number-line c = search needs
+slice-aggregate-named-line : tie.Need-slice-aggregate-named-line
+slice-aggregate-named-line c = search needs
 
-number-line-requires : tie.Need-number-line-requires
-number-line-requires c κs = search needs
+named-line-requires : tie.Need-named-line-requires
+named-line-requires c κs = search needs
 
-slice-aggregate-number-line-2 : tie.Need-slice-aggregate-number-line-2
-slice-aggregate-number-line-2 c = search needs
+slice-aggregate-named-line-2 : tie.Need-slice-aggregate-named-line-2
+slice-aggregate-named-line-2 c = search needs
 
-number-line-requires-2 : tie.Need-number-line-requires-2
-number-line-requires-2 c κs = search needs
+named-line-requires-2 : tie.Need-named-line-requires-2
+named-line-requires-2 c κs = search needs
 
 slice-aggregate-bytes : tie.Need-slice-aggregate-bytes
 slice-aggregate-bytes c = search needs
@@ -39,17 +39,17 @@ returns c =
     let column = name .before .before .before .before .before in
     let row = column .before .before .before .before .before in
     let start = row .before .before .before .before in
-    pixel-wrote (start .args .origin) (omega (arith, start .good .1 .0)) (row .number-line .ensures) (column .number-line2 .ensures) (name .bytes .ensures)
+    pixel-wrote (start .args .origin) (omega (arith, start .good .1 .0)) (row .named-line .ensures) (column .named-line2 .ensures) (name .bytes .ensures)
     (words .shown-words .ensures) (end .byte .ensures)
 
 pub pixel-lines-spec : {M : Type 1} → statement M
 pixel-lines-spec =
     tie.close
     (tie.spec
-    slice-aggregate-number-line
-    number-line-requires
-    slice-aggregate-number-line-2
-    number-line-requires-2
+    slice-aggregate-named-line
+    named-line-requires
+    slice-aggregate-named-line-2
+    named-line-requires-2
     slice-aggregate-bytes
     bytes-requires
     shown-words-requires
