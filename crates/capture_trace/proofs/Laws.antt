@@ -1,13 +1,15 @@
 -- What is promised of a capture that is followed, in one place: read this file first, then specs/Done.antt and specs/Told.antt. The work stands in the
 -- files beside it.
+use mathlib.Core.Bool.{true}
 use mathlib.Core.List.{List, [], _∷_, _++_}
 use mathlib.Core.Logic.{⊎-elim}
 use mathlib.Core.Path.{_≡_, refl, sym, ap, _∙_, subst}
-use Prim.Native.Nat.{ℕ}
+use Prim.Native.Nat.{ℕ, _<_}
 use native.Mathlib.Omega.{arith}
 use Rattle.registers.specs.State.{State}
 use Rattle.print.specs.Chosen.{linesOf}
-use Rattle.chip.specs.Promised.{isAcknowledged}
+use Rattle.chip.specs.Phases.{awaitsData}
+use Rattle.chip.specs.Promised.{isAcknowledged, refusalOf}
 use Rattle.capture.specs.Feeding.{kept, startOf, allParts}
 use Rattle.capture.specs.Replay.{started}
 use Rattle.capture.specs.Where.{Lent, NoFirstLine, Replayed, StoppedAfter}
@@ -15,7 +17,8 @@ use Rattle.capture.proofs.Courses.{Ended, all-replayed, refused-first, refused-
 use Rattle.capture.proofs.Refusals.{by-lent}
 use Rattle.capture_trace.specs.Done.{DoneEvent, doneEvents, doneOf}
 use Rattle.capture_trace.specs.Follow.{lineFor, tally, noneTallied, talliedOver}
-use Rattle.capture_trace.specs.Told.{linesInParts, talliedInParts, isNotAcknowledged, howMany, Follows}
+use Rattle.capture_trace.specs.Told.{linesInParts, talliedInParts, isNotAcknowledged, howMany, DisplayTold, Follows}
+use Rattle.capture_trace.proofs.Displays.{told}
 use Rattle.capture_trace.proofs.Events.{follows, replayed-done, stopped-done, unread-done, not-lent-done}
 use Rattle.capture_trace.proofs.Parts.{lines-joined, tallies-joined, whole-done}
 use Rattle.capture_trace.proofs.Tallies.{tally-counts}
@@ -48,6 +51,10 @@ pub none-lent : (text m w : List ℕ) → (Lent m w → ⊥) → doneOf text m w
 none-lent text m w n = not-lent-done text m w n
 
 -- ---- what is told of them
+
+-- the line of a display byte names the cell that it is stored in, and the byte that stands there then
+pub display-told : (b : ℕ) (s : State) → b < 256 → awaitsData (s .chip .phase) ≡ true → refusalOf b s ≡ 0 → DisplayTold b s
+display-told b s byte t h = told b s byte t h
 
 -- the lines of a capture that comes in any parts, one after the other, are those of its events
 pub lines-in-parts : (ps : List (List ℕ)) (m w : List ℕ) → linesInParts (kept startOf m w) ps ≡ linesOf lineFor (doneOf (allParts ps) m w)

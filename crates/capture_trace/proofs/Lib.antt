@@ -3,5 +3,6 @@ pub mod Whole
 pub mod Parts
 pub mod Events
 pub mod Tallies
+pub mod Displays
 pub mod Laws
 pub mod Bounds

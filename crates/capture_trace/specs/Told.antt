@@ -2,13 +2,16 @@
 use mathlib.Core.Bool.{Bool, true, false, cond}
 use mathlib.Core.List.{List, [], _∷_, _++_}
 use mathlib.Core.Path.{_≡_}
-use Prim.Native.Nat.{ℕ, _+_, _<_}
+use Prim.Native.Nat.{ℕ, _+_, _*_, _<_, _≤_}
 use lib.ListN.{length, getD}
 use Rattle.registers.specs.State.{State}
+use Rattle.text.specs.Text.{bytes}
 use Rattle.print.specs.Chosen.{linesOf}
+use Rattle.print.specs.Printed.{decimalOf}
 use Rattle.chip.specs.LastWriter.{before}
-use Rattle.chip.specs.Promised.{Answer, Refused, Nothing, Acknowledged, NotAcknowledged, Command, Read, isAcknowledged}
+use Rattle.chip.specs.Promised.{Answer, Refused, Nothing, Acknowledged, NotAcknowledged, Command, Read, isAcknowledged, stepOf}
 use Rattle.capture.specs.Feeding.{Playing, feedOf}
+use Rattle.event_words.specs.Words.{whatOf}
 use Rattle.capture_trace.specs.declared.tally.Tally.{Tally}
 use Rattle.capture_trace.specs.Done.{DoneEvent, doneEvent, doneInPart}
 use Rattle.capture_trace.specs.Follow.{answerTo, lineFor, talliedOver}
@@ -38,6 +41,20 @@ isNotAcknowledged (Read b) = false
 abbrev pub howMany : (Answer → Bool) → List DoneEvent → ℕ
 howMany is [] = 0
 howMany is (d ∷ ds) = cond (is (answerTo d)) 1 0 + howMany is ds
+
+-- ---- a display byte
+
+-- the line of display byte b, coming upon s, names a cell by column and bank, and the byte that stands there after it, which this event wrote
+pub record DisplayTold (b : ℕ) (s : State) : Type 0 where
+  pub column : ℕ
+  pub bank : ℕ
+  pub column-there : column ≤ 100
+  pub bank-there : bank ≤ 16
+  pub words :
+      whatOf b (s .chip)
+      ≡ bytes "display "
+      ++ (decimalOf column ++ 32 ∷ (decimalOf bank ++ 32 ∷ decimalOf (getD (stepOf b s .state .memory) (101 * bank + column) 0)))
+  pub writer : getD (stepOf b s .state .writers) (101 * bank + column) 0 ≡ s .chip .count + 1
 
 -- ---- which events were done
 

@@ -1,2 +1,3 @@
 pub mod CodeWays
 pub mod Bounds
+pub mod Known
