@@ -40,8 +40,8 @@ static const char *rule_of(uint64_t refusal)
 {
     switch (refusal) {
     case 6:
-        return "no put, fill or set, a field too many or too few, an unknown register, a number not of"
-               " 1 to 3 digits, or no newline at the end";
+        return "no put, fill or set, a field too many or too few, an unknown register, a number with"
+               " a leading zero or not of 1 to 3 digits, or no newline at the end";
     case 7:
         return "a column above 100, a bank above 16, ends the wrong way round, a byte above 255, a byte"
                " above 63 where bank 16 is touched, or a value wider than its field";

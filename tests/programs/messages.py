@@ -30,8 +30,8 @@ READERS = CAPTURE_READERS + [["draw", "2"]]
 
 MOST_PATH = 4095
 
-MALFORMED = (b"no put, fill or set, a field too many or too few, an unknown register, a number not of 1 to"
-             b" 3 digits, or no newline at the end")
+MALFORMED = (b"no put, fill or set, a field too many or too few, an unknown register, a number with a"
+             b" leading zero or not of 1 to 3 digits, or no newline at the end")
 OUT_OF_RANGE = (b"a column above 100, a bank above 16, ends the wrong way round, a byte above 255, a byte"
                 b" above 63 where bank 16 is touched, or a value wider than its field")
 TOO_MANY_LINES = b"more than 4096 lines"

@@ -16,6 +16,7 @@ use Rattle.capture.specs.declared.Capture.{Capture}
 use Rattle.capture.specs.declared.End.{End}
 use Rattle.capture.specs.declared.Fed.{Fed}
 use Rattle.capture.specs.Feeding.{Playing, kept, startOf, PartFed, fed, feedOf, thenFed, isOver, finishOf, meaning}
+use Rattle.capture.specs.Replay.{replayOf}
 use Rattle.capture.proofs.Feeds.{fedResult, text-replayed, fed-end}
 use Rattle.capture.proofs.Laws.{cut-anywhere, rest-unread}
 use Rattle.capture_file.specs.declared.Turn.{Turn}
@@ -130,23 +131,29 @@ pub turn-answers :
 unfolding turn-fed
 turn-answers t so-far left on turn = refl
 
+-- what was fed comes to the replay of what the answers gave
+pub fed-replayed :
+    {m₀ w₀ m w : List ℕ} {f : Fed} {more failed : Bool} {turns : ℕ} (end : End) (so-far : FedSoFar m₀ w₀ f m w more failed turns)
+    → end ≡ finishOf (f .refusal) (f .capture) → meaning end m w ≡ replayOf (textOf (so-far .answers)) m₀ w₀
+fed-replayed {m₀} {w₀} {m} {w} {f = f} end so-far e =
+    ap (λ (n : End). meaning n m w) e
+    ∙ fed-end (textOf (so-far .answers)) (kept startOf m₀ w₀) (f .refusal) (f .capture) m w (so-far .is-fed)
+    ∙ ap fedResult (so-far .is-fed)
+    ∙ text-replayed (textOf (so-far .answers)) m₀ w₀
+
+-- and there was a reason to make no further call
+pub fed-enough :
+    {m₀ w₀ m w : List ℕ} {f : Fed} {more failed : Bool} {turns : ℕ} (so-far : FedSoFar m₀ w₀ f m w more failed turns)
+    → (more ≡ false) ⊎ (turns ≡ 0) → Enough m₀ w₀ (so-far .answers)
+fed-enough so-far why = ⊎-elim (so-far .is-enough) (λ z. no-more-calls (so-far .answers) (omega (arith, z, so-far .are-counted))) why
+
 pub all-fed :
     {m₀ w₀ m w : List ℕ} {f : Fed} {more failed : Bool} {turns : ℕ} (end : End) → FedSoFar m₀ w₀ f m w more failed turns
     → end ≡ finishOf (f .refusal) (f .capture) → (more ≡ false) ⊎ (turns ≡ 0) → ReplayOfSome (record { end = end; failed = failed }) m w m₀ w₀
-all-fed {m₀} {w₀} {m} {w} {f = f} end so-far e why =
+all-fed end so-far e why =
     record {
       answers = so-far .answers;
-      is-replay =
-          ap (λ (n : End). meaning n m w) e
-          ∙ fed-end (textOf (so-far .answers)) (kept startOf m₀ w₀) (f .refusal) (f .capture) m w (so-far .is-fed)
-          ∙ ap fedResult (so-far .is-fed)
-          ∙ text-replayed (textOf (so-far .answers)) m₀ w₀;
+      is-replay = fed-replayed end so-far e;
       is-failed = so-far .is-failed;
-      is-enough = ⊎-elim (so-far .is-enough) (λ z. no-more-calls (so-far .answers) (omega (arith, z, so-far .are-counted))) why;
+      is-enough = fed-enough so-far why;
     }
-
-pub all-answers :
-    {m₀ w₀ m w : List ℕ} {f : Fed} {more failed : Bool} {turns : ℕ} (end : End) (so-far : FedSoFar m₀ w₀ f m w more failed turns)
-    (e : end ≡ finishOf (f .refusal) (f .capture)) (why : (more ≡ false) ⊎ (turns ≡ 0)) → all-fed end so-far e why .answers ≡ so-far .answers
-unfolding all-fed
-all-answers end so-far e why = refl

@@ -12,7 +12,7 @@ placeOf line = cond (eqb line 0) [] (bytes ", line " ++ decimalOf line)
 
 abbrev pub malformed : List ℕ
 malformed =
-    bytes "no put, fill or set, a field too many or too few, an unknown register, a number not of 1 to 3 digits, or no newline at the end"
+    bytes "no put, fill or set, a field too many or too few, an unknown register, a number with a leading zero or not of 1 to 3 digits, or no newline at the end"
 
 abbrev pub outOfRange : List ℕ
 outOfRange =

@@ -21,7 +21,7 @@ fn reason(number: u64, out: &mut [u8], at: usize) -> usize
 {
     if number == 6 {
         return print::bytes(
-            b"no put, fill or set, a field too many or too few, an unknown register, a number not of 1 to 3 digits, or no newline at the end",
+            b"no put, fill or set, a field too many or too few, an unknown register, a number with a leading zero or not of 1 to 3 digits, or no newline at the end",
             out,
             at,
         );

@@ -84,7 +84,12 @@ display-bound r b short h =
 -- those of an allowed record are
 short-registers : (r : Registers) → allowedRegisters r ≡ true → ShortNumbers r
 unfolding columnOf storedOf
-short-registers r h = record { column = column (eqb (r .mx) 1); bank = omega (arith, register-bound r h 10); stored = λ b l. kept-short (eqb (r .y) 16) _ (ordered-short (eqb (r .«data_order») 1) b l) }
+short-registers r h =
+    record {
+      column = column (eqb (r .mx) 1);
+      bank = omega (arith, register-bound r h 10);
+      stored = λ b l. kept-short (eqb (r .y) 16) _ (ordered-short (eqb (r .«data_order») 1) b l);
+    }
   where
     column : (t : Bool) → cond t (100 - r .x) (r .x) < 1000
     column true = omega (arith, register-bound r h 9)

@@ -57,12 +57,16 @@ pub fn say_of(name: &[u8], named: usize, message: &[u8])
     }
 }
 
-// The first n bytes of the text on standard output. Whether all of them were taken. Where the system did not take them, that has been said. Where the
-// text has fewer bytes, nothing is put and nothing said.
+// The first n bytes of the text on standard output. Whether all of them were taken; where not, that has been said. A text of fewer bytes is not put:
+// it had too little room, which the bounds of the texts shut out.
 pub fn put(program: &[u8], text: &[u8], n: usize) -> bool
     ensures { λ r. ⌜ (r ≡ true → n ≤ length (now (text .entry))) ⌝ }
 {
     if text.len() < n {
+        say(
+            program,
+            b"standard output: no room for a text of this length",
+        );
         return false;
     }
     if io::write_all(libc::STDOUT_FILENO, &text[..n]) {

@@ -13,12 +13,10 @@ use Rattle.capture.specs.declared.Fed.{Fed}
 use Rattle.capture.specs.Feeding.{Playing, kept, startOf, PartFed, fed, feedOf, isOver, finishOf}
 use Rattle.capture_file.specs.Answers.{Answer, answerOf, bytesOf, textOf}
 use Rattle.capture_file.specs.Played.{mostCalls}
-use Rattle.capture_file.proofs.CodeWays.{FedSoFar, begun, begun-answers, turn-fed, turn-answers, all-fed, all-answers}
+use Rattle.capture_file.proofs.CodeWays.{FedSoFar, begun, begun-answers, turn-fed, turn-answers, fed-replayed, fed-enough}
 use Rattle.capture_trace.specs.declared.tally.Tally.{Tally}
-use Rattle.capture_trace.specs.Done.{DoneEvent, doneInPart, doneOf}
-use Rattle.capture_trace.specs.Follow.{tally, noneTallied, talliedOver}
-use Rattle.capture_trace.specs.Told.{isNotAcknowledged, howMany}
-use Rattle.chip.specs.Promised.{isAcknowledged}
+use Rattle.capture_trace.specs.Done.{DoneEvent, doneInPart}
+use Rattle.capture_trace.specs.Follow.{noneTallied, talliedOver}
 use Rattle.capture_trace.proofs.CodeWays.{tallied-append}
 use Rattle.capture_trace.proofs.Laws.{cut-anywhere, tally-exact}
 use Rattle.capture_trace.proofs.Parts.{none-done, whole-done}
@@ -51,8 +49,8 @@ begun-followed m₀ w₀ m w c f t over ec ef eo et =
 
 -- the bytes of one answer more
 pub turn-followed :
-    {m₀ w₀ m w m′ w′ : List ℕ} {f : Fed} {t : Tally} {more failed : Bool} {turns : ℕ} (s : Step)
-    → FollowedSoFar m₀ w₀ f t m w more failed turns → 0 < turns → more ≡ true → StepOfSome s t m′ w′ (kept (f .capture) m w)
+    {m₀ w₀ m w m′ w′ : List ℕ} {f : Fed} {t : Tally} {more failed told : Bool} {turns : ℕ} {out out′ : List ℕ} (s : Step)
+    → FollowedSoFar m₀ w₀ f t m w more failed turns → 0 < turns → more ≡ true → StepOfSome s told t out m′ w′ out′ (kept (f .capture) m w)
     → FollowedSoFar m₀ w₀ (s .turn .fed) (s .tally) m′ w′ (s .turn .more) (s .turn .failed) (turns - 1)
 turn-followed {m₀} {w₀} {m} {w} {f = f} {t = t} s so-far left on step =
     record {
@@ -81,17 +79,16 @@ turn-followed {m₀} {w₀} {m} {w} {f = f} {t = t} s so-far left on step =
 
 pub all-followed :
     {m₀ w₀ m w : List ℕ} {f : Fed} {t : Tally} {more failed printed : Bool} {turns : ℕ} (end : End) → FollowedSoFar m₀ w₀ f t m w more failed turns
-    → end ≡ finishOf (f .refusal) (f .capture) → (more ≡ false) ⊎ (turns ≡ 0)
+    → end ≡ finishOf (f .refusal) (f .capture) → (printed ≡ true → (more ≡ false) ⊎ (turns ≡ 0))
     → FollowOfSome (record { end = end; tally = t; failed = failed; printed = printed }) m w m₀ w₀
-all-followed {m₀} {w₀} {m} {w} {t = t} end so-far e why =
+all-followed {m₀} {w₀} end so-far e why =
     record {
-      is-replay = all-fed end (so-far .is-fed) e why;
+      answers = so-far .is-fed .answers;
+      is-replay = fed-replayed end (so-far .is-fed) e;
+      is-failed = so-far .is-fed .is-failed;
+      is-enough = λ h. fed-enough (so-far .is-fed) (why h);
       is-tally =
           so-far .is-tallied
           ∙ ap (λ (ds : List DoneEvent). talliedOver ds noneTallied) (whole-done (textOf (so-far .is-fed .answers)) m₀ w₀)
-          ∙ tally-exact (textOf (so-far .is-fed .answers)) m₀ w₀
-          ∙ ap (λ (answers : List Answer). tallyOf (textOf answers)) (sym (all-answers end (so-far .is-fed) e why));
+          ∙ tally-exact (textOf (so-far .is-fed .answers)) m₀ w₀;
     }
-  where
-    tallyOf : List ℕ → Tally
-    tallyOf text = tally (howMany isAcknowledged (doneOf text m₀ w₀)) (howMany isNotAcknowledged (doneOf text m₀ w₀))

@@ -2,8 +2,8 @@
 // the part that has it was read.
 //
 // What is done with the bytes that came is an equation, `take_in`. No contract can say which bytes those are, nor that the lines were put: `follow`
-// promises what some answers of the system gave. That the file's own bytes are followed and their lines printed is tested, as for `capture_file`.
-ghost use mathlib.Core.Bool.{true};
+// promises of the end, the memories and the tally that they are those of what some answers of the system gave. That the file's own bytes are followed
+// and their lines printed is tested, as for `capture_file`.
 ghost use mathlib.Core.Path.{_≡_};
 ghost use lib.ListN.{length};
 ghost use Rattle.capture.specs.Feeding.{kept};
@@ -84,7 +84,8 @@ fn read_once(
     writers: &mut [u64],
     out: &mut [u8],
 ) -> Step
-    ensures { λ r. ⌜ StepOfSome r tally (now (memory .exit)) (now (writers .exit)) (kept capture (now (memory .entry)) (now (writers .entry))) ⌝ }
+    ensures { λ r. ⌜ StepOfSome r told tally (now (out .entry)) (now (memory .exit)) (now (writers .exit)) (now (out .exit))
+        (kept capture (now (memory .entry)) (now (writers .entry))) ⌝ }
 {
     let mut buf = io::buffer();
     let got = libc::read(fd, &mut buf);
@@ -100,7 +101,7 @@ pub fn follow(
     memory: &mut [u8],
     writers: &mut [u64],
 ) -> Followed
-    ensures { λ r. ⌜ (r .printed ≡ true → FollowOfSome r (now (memory .exit)) (now (writers .exit)) (now (memory .entry)) (now (writers .entry))) ⌝ }
+    ensures { λ r. ⌜ FollowOfSome r (now (memory .exit)) (now (writers .exit)) (now (memory .entry)) (now (writers .entry)) ⌝ }
 {
     let mut out = room();
     let mut fed = capture::feed(capture::start(), memory, writers, b"");

@@ -30,7 +30,11 @@ same-length c = search needs
 
 returns : tie.Need-returns
 returns c =
-    bus-wrote _ _ (omega (arith, c .before .before .before .before .before .before .before .before .before .before .before .before .before .before .before .before .before .before .before .before .good .1 .1 .0)) (c .before .before .before .before .before .before .before .before .before .before .before .before .before .before .before .before .before .phase-line .ensures) (c .before .before .before .before .before .before .before .before .before .before .before .before .named-line .ensures) (c .before .before .before .before .before .before .before .named-line2 .ensures)
+    let named-line2 = c .before .before .before .before .before .before .before in
+    let named-line = named-line2 .before .before .before .before .before in
+    let phase-line = named-line .before .before .before .before .before in
+    let start = phase-line .before .before .before in
+    bus-wrote _ _ (omega (arith, start .good .1 .1 .0)) (phase-line .phase-line .ensures) (named-line .named-line .ensures) (named-line2 .named-line2 .ensures)
     (c .before .before .named-line3 .ensures)
 
 pub bus-lines-spec : {M : Type 1} → statement M

@@ -14,7 +14,10 @@ same-length : tie.Need-same-length
 same-length c = search needs
 
 returns : tie.Need-returns
-returns c = wrote-then (omega (arith, c .before .before .before .before .before .before .before .before .before .good .1 .1 .0)) (c .before .before .before .before .before .before .record-lines .ensures) (c .before .before .bus-lines .ensures)
+returns c =
+    let record-lines = c .before .before .before .before .before .before in
+    let start = record-lines .before .before .before in
+    wrote-then (omega (arith, start .good .1 .1 .0)) (record-lines .record-lines .ensures) (c .before .before .bus-lines .ensures)
 
 pub lines-spec : {M : Type 1} → statement M
 lines-spec = tie.close (tie.spec record-lines-requires bus-lines-requires same-length returns)

@@ -20,7 +20,11 @@ same-length : tie.Need-same-length
 same-length c = search needs
 
 returns : tie.Need-returns
-returns c = phase-wrote _ (omega (arith, c .before .before .before .before .before .before .before .before .before .before .before .before .before .before .good)) (c .before .before .before .before .before .before .before .before .before .before .bytes .ensures) (c .before .before .before .before .before .before .phase-words .ensures) (c .before .before .byte .ensures)
+returns c =
+    let phase-words = c .before .before .before .before .before .before in
+    let bytes = phase-words .before .before .before .before in
+    let start = bytes .before .before .before .before in
+    phase-wrote _ (omega (arith, start .good)) (bytes .bytes .ensures) (phase-words .phase-words .ensures) (c .before .before .byte .ensures)
 
 pub phase-line-spec : {M : Type 1} → statement M
 phase-line-spec =

@@ -42,8 +42,14 @@ same-length c = search needs
 
 returns : tie.Need-returns
 returns c =
-    record-wrote _ (omega (arith, c .before .before .before .before .before .before .before .before .before .before .before .before .before .before .before .before .before .before .before .before .before .before .before .before .before .good .1 .0)) (c .before .before .before .before .before .before .before .before .before .before .before .before .before .before .before .before .before .before .before .before .before .before .before .bytes .ensures) (c .before .before .before .before .bit .ensures) (c .before .before .before .before .before .before .before .before .before .before .before .before .before .before .before .before .before .before .before .before .register-lines .ensures)
-    (c .before .before .before .before .before .before .before .before .before .before .before .before .before .before .named-line .ensures) (c .before .before .before .before .before .before .before .before .named-line2 .ensures) (c .before .before .named-line3 .ensures)
+    let bit = c .before .before .before .before in
+    let named-line2 = bit .before .before .before .before in
+    let named-line = named-line2 .before .before .before .before .before .before in
+    let register-lines = named-line .before .before .before .before .before .before in
+    let bytes = register-lines .before .before .before in
+    let start = bytes .before .before in
+    record-wrote _ (omega (arith, start .good .1 .0)) (bytes .bytes .ensures) (bit .bit .ensures) (register-lines .register-lines .ensures)
+    (named-line .named-line .ensures) (named-line2 .named-line2 .ensures) (c .before .before .named-line3 .ensures)
 
 pub record-lines-spec : {M : Type 1} → statement M
 record-lines-spec =

@@ -72,53 +72,76 @@ same-length c = search needs
 
 returns : tie.Need-returns
 unfolding eventWords
-returns c = wrote-known (λ (e : Event). eventWords e (c .before .before .before .before .before .before .before .before .args .chip)) (Byte _) (c .before .before .before .before .before .event .given .1) (c .before .before .words .ensures)
+returns c =
+    let event = c .before .before .before .before .before in
+    let start = event .before .before .before in
+    wrote-known (λ (e : Event). eventWords e (start .args .chip)) (Byte _) (event .event .given .1) (c .before .before .words .ensures)
 
 same-length-2 : tie.Need-same-length-2
 same-length-2 c = search needs
 
 returns-2 : tie.Need-returns-2
 unfolding eventWords
-returns-2 c = wrote-known (λ (e : Event). eventWords e (c .before .before .before .before .before .before .before .before .args .chip)) Start (c .before .before .before .before .before .enum-told .given .1) (c .before .before .bytes .ensures)
+returns-2 c =
+    let enum-told = c .before .before .before .before .before in
+    let start = enum-told .before .before .before in
+    wrote-known (λ (e : Event). eventWords e (start .args .chip)) Start (enum-told .enum-told .given .1) (c .before .before .bytes .ensures)
 
 same-length-3 : tie.Need-same-length-3
 same-length-3 c = search needs
 
 returns-3 : tie.Need-returns-3
 unfolding eventWords
-returns-3 c = wrote-known (λ (e : Event). eventWords e (c .before .before .before .before .before .before .before .before .args .chip)) Stop (c .before .before .before .before .before .enum-told2 .given .1) (c .before .before .bytes2 .ensures)
+returns-3 c =
+    let enum-told2 = c .before .before .before .before .before in
+    let start = enum-told2 .before .before .before in
+    wrote-known (λ (e : Event). eventWords e (start .args .chip)) Stop (enum-told2 .enum-told2 .given .1) (c .before .before .bytes2 .ensures)
 
 same-length-4 : tie.Need-same-length-4
 same-length-4 c = search needs
 
 returns-4 : tie.Need-returns-4
 unfolding eventWords
-returns-4 c = wrote-known (λ (e : Event). eventWords e (c .before .before .before .before .before .before .before .before .args .chip)) ReadAcknowledged (c .before .before .before .before .before .enum-told3 .given .1) (c .before .before .bytes3 .ensures)
+returns-4 c =
+    let enum-told3 = c .before .before .before .before .before in
+    let start = enum-told3 .before .before .before in
+    wrote-known (λ (e : Event). eventWords e (start .args .chip)) ReadAcknowledged (enum-told3 .enum-told3 .given .1) (c .before .before .bytes3 .ensures)
 
 same-length-5 : tie.Need-same-length-5
 same-length-5 c = search needs
 
 returns-5 : tie.Need-returns-5
 unfolding eventWords
-returns-5 c = wrote-known (λ (e : Event). eventWords e (c .before .before .before .before .before .before .before .before .args .chip)) ReadNotAcknowledged (c .before .before .before .before .before .enum-told4 .given .1) (c .before .before .bytes4 .ensures)
+returns-5 c =
+    let enum-told4 = c .before .before .before .before .before in
+    let start = enum-told4 .before .before .before in
+    wrote-known (λ (e : Event). eventWords e (start .args .chip)) ReadNotAcknowledged (enum-told4 .enum-told4 .given .1) (c .before .before .bytes4 .ensures)
 
 same-length-6 : tie.Need-same-length-6
 same-length-6 c = search needs
 
 returns-6 : tie.Need-returns-6
 unfolding eventWords
-returns-6 c = wrote-known (λ (e : Event). eventWords e (c .before .before .before .before .before .before .before .before .args .chip)) Reset (c .before .before .before .before .before .enum-told5 .given .1) (c .before .before .bytes5 .ensures)
+returns-6 c =
+    let enum-told5 = c .before .before .before .before .before in
+    let start = enum-told5 .before .before .before in
+    wrote-known (λ (e : Event). eventWords e (start .args .chip)) Reset (enum-told5 .enum-told5 .given .1) (c .before .before .bytes5 .ensures)
 
 same-length-7 : tie.Need-same-length-7
 same-length-7 c = search needs
 
 returns-7 : tie.Need-returns-7
 unfolding eventWords
-returns-7 c = wrote-known (λ (e : Event). eventWords e (c .before .before .before .before .before .before .before .before .args .chip)) (Sensor _) (c .before .before .before .before .before .event2 .given .1) (c .before .before .sensor .ensures)
+returns-7 c =
+    let event2 = c .before .before .before .before .before in
+    let start = event2 .before .before .before in
+    wrote-known (λ (e : Event). eventWords e (start .args .chip)) (Sensor _) (event2 .event2 .given .1) (c .before .before .sensor .ensures)
 
 returns-8 : tie.Need-returns-8
 unfolding eventWords
-returns-8 c = wrote-known (λ (e : Event). eventWords e (c .before .before .before .args .chip)) Unlisted (c .enum-told6 .given .1) (wrote-none _ _ (search needs))
+returns-8 c =
+    let start = c .before .before .before in
+    wrote-known (λ (e : Event). eventWords e (start .args .chip)) Unlisted (c .enum-told6 .given .1) (wrote-none _ _ (search needs))
 
 pub event-words-spec : {M : Type 1} → statement M
 event-words-spec =

@@ -29,7 +29,15 @@ same-length : tie.Need-same-length
 same-length c = search needs
 
 returns : tie.Need-returns
-returns c = line-wrote _ _ _ _ (omega (arith, c .before .before .before .before .before .before .before .before .before .before .before .before .before .before .before .before .before .before .before .before .before .before .before .before .before .before .before .before .before .good .1 .1 .1 .0)) (c .before .before .before .before .before .before .before .before .before .before .before .before .before .before .before .before .before .before .before .before .before .before .before .before .before .before .decimal-plus .ensures) (c .before .before .before .before .before .before .before .before .before .before .before .before .before .before .before .before .before .before .before .before .before .before .byte .ensures) (c .before .before .before .before .before .before .before .before .before .before .before .before .before .before .before .before .before .before .field .ensures) (c .before .before .before .before .before .before .before .before .before .before .before .before .before .before .what .ensures) (c .before .before .before .before .before .before .before .before .before .before .byte2 .ensures) (c .before .before .before .before .before .before .answer .ensures) (c .before .before .byte3 .ensures)
+returns c =
+    let answer = c .before .before .before .before .before .before in
+    let byte2 = answer .before .before .before .before in
+    let what = byte2 .before .before .before .before in
+    let field = what .before .before .before .before in
+    let byte = field .before .before .before .before in
+    let decimal-plus = byte .before .before .before .before in
+    let start = decimal-plus .before .before .before in
+    line-wrote _ _ _ _ (omega (arith, start .good .1 .1 .1 .0)) (decimal-plus .decimal-plus .ensures) (byte .byte .ensures) (field .field .ensures) (what .what .ensures) (byte2 .byte2 .ensures) (answer .answer .ensures) (c .before .before .byte3 .ensures)
 
 pub line-spec : {M : Type 1} → statement M
 line-spec =

@@ -17,7 +17,10 @@ same-length : tie.Need-same-length
 same-length c = search needs
 
 returns : tie.Need-returns
-returns c = wrote-then (omega (arith, c .before .before .before .before .before .before .before .before .before .before .good .1 .0)) (c .before .before .before .before .before .before .bytes .ensures) (c .before .before .decimal .ensures)
+returns c =
+    let bytes = c .before .before .before .before .before .before in
+    let start = bytes .before .before .before .before in
+    wrote-then (omega (arith, start .good .1 .0)) (bytes .bytes .ensures) (c .before .before .decimal .ensures)
 
 pub refused-spec : {M : Type 1} → statement M
 refused-spec =

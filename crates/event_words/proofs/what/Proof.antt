@@ -16,7 +16,10 @@ same-length : tie.Need-same-length
 same-length c = search needs
 
 returns : tie.Need-returns
-returns c = wrote-same (ap (λ (e : Event). eventWords e (c .before .before .before .before .before .before .args .chip)) (c .before .before .before .before .of .ensures)) (c .before .before .event-words .ensures)
+returns c =
+    let of = c .before .before .before .before in
+    let start = of .before .before in
+    wrote-same (ap (λ (e : Event). eventWords e (start .args .chip)) (of .of .ensures)) (c .before .before .event-words .ensures)
 
 pub what-spec : {M : Type 1} → statement M
 what-spec = tie.close (tie.spec of-requires event-words-requires same-length returns)

@@ -5,6 +5,12 @@ use borrow.Author.Needs.{needs}
 use Rattle.program_io.proofs.put.Statement.{statement}
 use Rattle.program_io.proofs.put.Tie as tie
 
+slice-aggregate-say : tie.Need-slice-aggregate-say
+slice-aggregate-say c = search needs
+
+say-requires : tie.Need-say-requires
+say-requires c κs = search needs
+
 returns : tie.Need-returns
 returns c = λ e. absurd (subst T (sym e) tt)
 
@@ -42,6 +48,8 @@ pub put-spec : {M : Type 1} → statement M
 put-spec =
     tie.close
     (tie.spec
+    slice-aggregate-say
+    say-requires
     returns
     slice-aggregate-write-all
     write-all-requires

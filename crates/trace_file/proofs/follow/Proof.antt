@@ -83,7 +83,6 @@ same-length-2 c = search needs
 
 returns : tie.Need-returns Inv-loop μ-loop
 returns c =
-    λ printed.
     let test = c .before in
     let head = test .before in
     let over = head .before in
@@ -94,7 +93,8 @@ returns c =
     head .loop .inv .3 _ _
     (begun-followed _ _ _ _ _ _ _ _ (start .start .ensures) (fed .feed .ensures) (over .is-over .ensures) (none .none .ensures)) in
     all-followed _ so-far (c .finish .ensures)
-    (⊎-elim (λ w. absurd (subst T (sym printed ∙ w .2 .left) tt)) (⊎-elim (λ w. inl (w .1 .left)) (λ w. inr (omega (arith, w .left))))
+    (λ printed.
+    ⊎-elim (λ w. absurd (subst T (sym printed ∙ w .2 .left) tt)) (⊎-elim (λ w. inl (w .1 .left)) (λ w. inr (omega (arith, w .left))))
     (test .loop-test .came))
 
 pub follow-spec : {M : Type 1} → statement M

@@ -30,7 +30,7 @@ same-length-3 c = search needs
 returns : tie.Need-returns
 returns c =
     let came = c .before .before .before .before .before .before .take-in .ensures in
-    record { is-turn = record { answer = answerOf _ _; is-taken-in = came .0 }; is-tallied = came .1 .0 }
+    record { is-turn = record { answer = answerOf _ _; is-taken-in = came .0 }; is-tallied = came .1 .0; is-told = came .1 .1 }
 
 pub read-once-spec : {M : Type 1} → statement M
 read-once-spec =

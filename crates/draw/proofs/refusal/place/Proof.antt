@@ -22,7 +22,9 @@ same-length c = search needs
 
 returns-2 : tie.Need-returns-2
 returns-2 c =
-    wrote-same (some-place _ (c .before .before .before .before .before .before .before .before .before .if1 .left)) (wrote-then (omega arith) (c .before .before .before .before .before .before .bytes .ensures) (c .before .before .decimal .ensures))
+    let bytes = c .before .before .before .before .before .before in
+    let test = bytes .before .before .before in
+    wrote-same (some-place _ (test .if1 .left)) (wrote-then (omega arith) (bytes .bytes .ensures) (c .before .before .decimal .ensures))
 
 pub place-spec : {M : Type 1} → statement M
 place-spec =

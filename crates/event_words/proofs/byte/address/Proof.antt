@@ -27,7 +27,12 @@ same-length : tie.Need-same-length
 same-length c = search needs
 
 returns : tie.Need-returns
-returns c = wrote-three (omega (arith, c .before .before .before .before .before .before .before .before .before .before .before .before .before .before .before .before .good .1 .0)) (c .before .before .before .before .before .before .before .before .before .before .before .before .bytes .ensures) (c .before .before .before .before .before .before .before .before .decimal .ensures) (of-taken _ _ (c .before .before .before .before .before .if1 .taken) (c .before .before .bytes2 .ensures))
+returns c =
+    let test = c .before .before .before .before .before in
+    let decimal = test .before .before .before in
+    let bytes = decimal .before .before .before .before in
+    let start = bytes .before .before .before .before in
+    wrote-three (omega (arith, start .good .1 .0)) (bytes .bytes .ensures) (decimal .decimal .ensures) (of-taken _ _ (test .if1 .taken) (c .before .before .bytes2 .ensures))
 
 slice-aggregate-bytes-3 : tie.Need-slice-aggregate-bytes-3
 slice-aggregate-bytes-3 c = search needs
@@ -39,7 +44,12 @@ same-length-2 : tie.Need-same-length-2
 same-length-2 c = search needs
 
 returns-2 : tie.Need-returns-2
-returns-2 c = wrote-three (omega (arith, c .before .before .before .before .before .before .before .before .before .before .before .before .before .before .before .before .good .1 .0)) (c .before .before .before .before .before .before .before .before .before .before .before .before .bytes .ensures) (c .before .before .before .before .before .before .before .before .decimal .ensures) (of-left _ _ (c .before .before .before .before .before .if1 .left) (c .before .before .bytes3 .ensures))
+returns-2 c =
+    let test = c .before .before .before .before .before in
+    let decimal = test .before .before .before in
+    let bytes = decimal .before .before .before .before in
+    let start = bytes .before .before .before .before in
+    wrote-three (omega (arith, start .good .1 .0)) (bytes .bytes .ensures) (decimal .decimal .ensures) (of-left _ _ (test .if1 .left) (c .before .before .bytes3 .ensures))
 
 pub address-spec : {M : Type 1} → statement M
 address-spec =

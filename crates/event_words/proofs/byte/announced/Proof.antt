@@ -14,7 +14,10 @@ same-length : tie.Need-same-length
 same-length c = search needs
 
 returns : tie.Need-returns
-returns c = announced-known true true (c .before .before .before .before .before .before .if1 .taken) (c .before .before .before .before .before .if2 .taken) (c .before .before .bytes .ensures)
+returns c =
+    let second-test = c .before .before .before .before .before in
+    let test = second-test .before in
+    announced-known true true (test .if1 .taken) (second-test .if2 .taken) (c .before .before .bytes .ensures)
 
 slice-aggregate-bytes-2 : tie.Need-slice-aggregate-bytes-2
 slice-aggregate-bytes-2 c = search needs
@@ -26,7 +29,10 @@ same-length-2 : tie.Need-same-length-2
 same-length-2 c = search needs
 
 returns-2 : tie.Need-returns-2
-returns-2 c = announced-known true false (c .before .before .before .before .before .before .if1 .taken) (c .before .before .before .before .before .if2 .left) (c .before .before .bytes2 .ensures)
+returns-2 c =
+    let second-test = c .before .before .before .before .before in
+    let test = second-test .before in
+    announced-known true false (test .if1 .taken) (second-test .if2 .left) (c .before .before .bytes2 .ensures)
 
 slice-aggregate-bytes-3 : tie.Need-slice-aggregate-bytes-3
 slice-aggregate-bytes-3 c = search needs
@@ -38,7 +44,10 @@ same-length-3 : tie.Need-same-length-3
 same-length-3 c = search needs
 
 returns-3 : tie.Need-returns-3
-returns-3 c = announced-known false true (c .before .before .before .before .before .before .if1 .left) (c .before .before .before .before .before .if3 .taken) (c .before .before .bytes3 .ensures)
+returns-3 c =
+    let if3 = c .before .before .before .before .before in
+    let test = if3 .before in
+    announced-known false true (test .if1 .left) (if3 .if3 .taken) (c .before .before .bytes3 .ensures)
 
 slice-aggregate-bytes-4 : tie.Need-slice-aggregate-bytes-4
 slice-aggregate-bytes-4 c = search needs
@@ -50,7 +59,10 @@ same-length-4 : tie.Need-same-length-4
 same-length-4 c = search needs
 
 returns-4 : tie.Need-returns-4
-returns-4 c = announced-known false false (c .before .before .before .before .before .before .if1 .left) (c .before .before .before .before .before .if3 .left) (c .before .before .bytes4 .ensures)
+returns-4 c =
+    let if3 = c .before .before .before .before .before in
+    let test = if3 .before in
+    announced-known false false (test .if1 .left) (if3 .if3 .left) (c .before .before .bytes4 .ensures)
 
 pub announced-spec : {M : Type 1} → statement M
 announced-spec =

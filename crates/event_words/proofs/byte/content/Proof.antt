@@ -12,7 +12,10 @@ same-length : tie.Need-same-length
 same-length c = search needs
 
 returns : tie.Need-returns
-returns c = wrote-known (λ (t : Bool). contentWords t (c .before .before .before .before .before .before .args .registers) (c .before .before .before .before .before .before .args .byte)) true (c .before .before .before .before .if1 .taken) (c .before .before .display-byte .ensures)
+returns c =
+    let test = c .before .before .before .before in
+    let start = test .before .before in
+    wrote-known (λ (t : Bool). contentWords t (start .args .registers) (start .args .byte)) true (test .if1 .taken) (c .before .before .display-byte .ensures)
 
 words-requires : tie.Need-words-requires
 words-requires c κs = search needs
@@ -21,7 +24,10 @@ same-length-2 : tie.Need-same-length-2
 same-length-2 c = search needs
 
 returns-2 : tie.Need-returns-2
-returns-2 c = wrote-known (λ (t : Bool). contentWords t (c .before .before .before .before .before .before .args .registers) (c .before .before .before .before .before .before .args .byte)) false (c .before .before .before .before .if1 .left) (c .before .before .words .ensures)
+returns-2 c =
+    let test = c .before .before .before .before in
+    let start = test .before .before in
+    wrote-known (λ (t : Bool). contentWords t (start .args .registers) (start .args .byte)) false (test .if1 .left) (c .before .before .words .ensures)
 
 pub content-spec : {M : Type 1} → statement M
 content-spec =

@@ -40,7 +40,14 @@ same-length c = search needs
 
 returns : tie.Need-returns
 unfolding displayWords
-returns c = display-wrote _ _ _ (omega (arith, c .before .before .before .before .before .before .before .before .before .before .before .before .before .before .before .before .before .before .before .before .before .good .1 .1 .0)) (c .before .before .before .before .before .before .before .before .before .before .before .before .before .before .column .ensures) (c .before .before .before .before .stored .ensures) (c .before .before .before .before .before .before .before .before .before .before .before .before .before .before .before .before .before .bytes .ensures) (c .before .before .before .before .before .before .before .before .before .before .before .before .field .ensures) (c .before .before .before .before .before .before .before .field2 .ensures) (c .before .before .decimal .ensures)
+returns c =
+    let stored = c .before .before .before .before in
+    let field2 = stored .before .before .before in
+    let field = field2 .before .before .before .before .before in
+    let column = field .before .before in
+    let bytes = column .before .before .before in
+    let start = bytes .before .before .before .before in
+    display-wrote _ _ _ (omega (arith, start .good .1 .1 .0)) (column .column .ensures) (stored .stored .ensures) (bytes .bytes .ensures) (field .field .ensures) (field2 .field2 .ensures) (c .before .before .decimal .ensures)
 
 pub display-byte-spec : {M : Type 1} → statement M
 display-byte-spec =

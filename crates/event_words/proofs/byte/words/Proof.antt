@@ -71,56 +71,80 @@ same-length c = search needs
 
 returns : tie.Need-returns
 unfolding byteWords
-returns c = wrote-known (λ (p : Phase). byteWords p (c .before .before .before .before .before .before .before .before .args .registers) (c .before .before .before .before .before .before .before .before .args .byte)) Idle (c .before .before .before .before .before .enum-told .given .1) (c .before .before .bytes .ensures)
+returns c =
+    let enum-told = c .before .before .before .before .before in
+    let start = enum-told .before .before .before in
+    wrote-known (λ (p : Phase). byteWords p (start .args .registers) (start .args .byte)) Idle (enum-told .enum-told .given .1) (c .before .before .bytes .ensures)
 
 same-length-2 : tie.Need-same-length-2
 same-length-2 c = search needs
 
 returns-2 : tie.Need-returns-2
 unfolding byteWords
-returns-2 c = wrote-known (λ (p : Phase). byteWords p (c .before .before .before .before .before .before .before .args .registers) (c .before .before .before .before .before .before .before .args .byte)) AddressAwaited (c .before .before .before .before .enum-told2 .given .1) (c .before .before .address .ensures)
+returns-2 c =
+    let enum-told2 = c .before .before .before .before in
+    let start = enum-told2 .before .before .before in
+    wrote-known (λ (p : Phase). byteWords p (start .args .registers) (start .args .byte)) AddressAwaited (enum-told2 .enum-told2 .given .1) (c .before .before .address .ensures)
 
 same-length-3 : tie.Need-same-length-3
 same-length-3 c = search needs
 
 returns-3 : tie.Need-returns-3
 unfolding byteWords
-returns-3 c = wrote-known (λ (p : Phase). byteWords p (c .before .before .before .before .before .before .before .before .args .registers) (c .before .before .before .before .before .before .before .before .args .byte)) Ignoring (c .before .before .before .before .before .enum-told3 .given .1) (c .before .before .bytes2 .ensures)
+returns-3 c =
+    let enum-told3 = c .before .before .before .before .before in
+    let start = enum-told3 .before .before .before in
+    wrote-known (λ (p : Phase). byteWords p (start .args .registers) (start .args .byte)) Ignoring (enum-told3 .enum-told3 .given .1) (c .before .before .bytes2 .ensures)
 
 same-length-4 : tie.Need-same-length-4
 same-length-4 c = search needs
 
 returns-4 : tie.Need-returns-4
 unfolding byteWords
-returns-4 c = wrote-known (λ (p : Phase). byteWords p (c .before .before .before .before .before .before .before .args .registers) (c .before .before .before .before .before .before .before .args .byte)) ControlAwaited (c .before .before .before .before .enum-told4 .given .1) (c .before .before .control .ensures)
+returns-4 c =
+    let enum-told4 = c .before .before .before .before in
+    let start = enum-told4 .before .before .before in
+    wrote-known (λ (p : Phase). byteWords p (start .args .registers) (start .args .byte)) ControlAwaited (enum-told4 .enum-told4 .given .1) (c .before .before .control .ensures)
 
 same-length-5 : tie.Need-same-length-5
 same-length-5 c = search needs
 
 returns-5 : tie.Need-returns-5
 unfolding byteWords
-returns-5 c = wrote-known (λ (p : Phase). byteWords p (c .before .before .before .before .before .before .before .before .args .registers) (c .before .before .before .before .before .before .before .before .args .byte)) (OneByte _) (c .before .before .before .before .before .phase .given .1) (c .before .before .content .ensures)
+returns-5 c =
+    let phase = c .before .before .before .before .before in
+    let start = phase .before .before .before in
+    wrote-known (λ (p : Phase). byteWords p (start .args .registers) (start .args .byte)) (OneByte _) (phase .phase .given .1) (c .before .before .content .ensures)
 
 same-length-6 : tie.Need-same-length-6
 same-length-6 c = search needs
 
 returns-6 : tie.Need-returns-6
 unfolding byteWords
-returns-6 c = wrote-known (λ (p : Phase). byteWords p (c .before .before .before .before .before .before .before .before .args .registers) (c .before .before .before .before .before .before .before .before .args .byte)) (EndlessBytes _) (c .before .before .before .before .before .phase2 .given .1) (c .before .before .content2 .ensures)
+returns-6 c =
+    let phase2 = c .before .before .before .before .before in
+    let start = phase2 .before .before .before in
+    wrote-known (λ (p : Phase). byteWords p (start .args .registers) (start .args .byte)) (EndlessBytes _) (phase2 .phase2 .given .1) (c .before .before .content2 .ensures)
 
 same-length-7 : tie.Need-same-length-7
 same-length-7 c = search needs
 
 returns-7 : tie.Need-returns-7
 unfolding byteWords
-returns-7 c = wrote-known (λ (p : Phase). byteWords p (c .before .before .before .before .before .before .before .before .args .registers) (c .before .before .before .before .before .before .before .before .args .byte)) Reading (c .before .before .before .before .before .enum-told5 .given .1) (c .before .before .bytes3 .ensures)
+returns-7 c =
+    let enum-told5 = c .before .before .before .before .before in
+    let start = enum-told5 .before .before .before in
+    wrote-known (λ (p : Phase). byteWords p (start .args .registers) (start .args .byte)) Reading (enum-told5 .enum-told5 .given .1) (c .before .before .bytes3 .ensures)
 
 same-length-8 : tie.Need-same-length-8
 same-length-8 c = search needs
 
 returns-8 : tie.Need-returns-8
 unfolding byteWords
-returns-8 c = wrote-known (λ (p : Phase). byteWords p (c .before .before .before .before .before .before .before .before .args .registers) (c .before .before .before .before .before .before .before .before .args .byte)) ReadEnded (c .before .before .before .before .before .enum-told6 .given .1) (c .before .before .bytes4 .ensures)
+returns-8 c =
+    let enum-told6 = c .before .before .before .before .before in
+    let start = enum-told6 .before .before .before in
+    wrote-known (λ (p : Phase). byteWords p (start .args .registers) (start .args .byte)) ReadEnded (enum-told6 .enum-told6 .given .1) (c .before .before .bytes4 .ensures)
 
 pub words-spec : {M : Type 1} → statement M
 words-spec =

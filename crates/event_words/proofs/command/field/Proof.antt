@@ -29,7 +29,14 @@ same-length : tie.Need-same-length
 same-length c = search needs
 
 returns : tie.Need-returns
-returns c = field-wrote _ _ (omega (arith, c .before .before .before .before .before .before .before .before .before .before .before .before .before .before .before .before .before .before .before .before .good .1 .1 .0)) (c .before .before .before .before .before .before .before .before .before .before .before .before .before .before .before .before .before .before .all .ensures) (c .before .before .before .before .before .before .before .before .before .before .before .before .piece .ensures) (c .before .before .before .before .before .before .before .before .before .before .before .before .before .before .before .before .byte .ensures) (c .before .before .before .before .before .before .before .before .before .before .bytes .ensures) (c .before .before .before .before .before .before .byte2 .ensures) (c .before .before .decimal .ensures)
+returns c =
+    let byte2 = c .before .before .before .before .before .before in
+    let bytes = byte2 .before .before .before .before in
+    let piece = bytes .before .before in
+    let byte = piece .before .before .before .before in
+    let all = byte .before .before in
+    let start = all .before .before in
+    field-wrote _ _ (omega (arith, start .good .1 .1 .0)) (all .all .ensures) (piece .piece .ensures) (byte .byte .ensures) (bytes .bytes .ensures) (byte2 .byte2 .ensures) (c .before .before .decimal .ensures)
 
 pub field-spec : {M : Type 1} → statement M
 field-spec =

@@ -32,8 +32,14 @@ same-length c = search needs
 
 returns-2 : tie.Need-returns-2
 returns-2 c =
-    let given = c .before .before .before .before .before .before .before .before .before .before .args in
-    field-of-own (given .registers) (given .byte) (given .row) (given .part) _ (c .before .before .before .before .before .before .before .before .part-row .ensures) _ _ _ (c .before .before .before .before .before .before .before .if1 .left) (c .before .before .before .before .before .before .part-target .ensures) (c .before .before .before .before .before .place .ensures) (c .before .before .before .before .value .ensures) (c .before .before .field .ensures)
+    let value = c .before .before .before .before in
+    let place = value .before in
+    let part-target = place .before in
+    let test = part-target .before in
+    let part-row = test .before in
+    let start = part-row .before .before in
+    let given = start .args in
+    field-of-own (given .registers) (given .byte) (given .row) (given .part) _ (part-row .part-row .ensures) _ _ _ (test .if1 .left) (part-target .part-target .ensures) (place .place .ensures) (value .value .ensures) (c .before .before .field .ensures)
 
 pub field-at-spec : {M : Type 1} → statement M
 field-at-spec =

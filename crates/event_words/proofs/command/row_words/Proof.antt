@@ -25,7 +25,10 @@ same-length-2 : tie.Need-same-length-2
 same-length-2 c = search needs
 
 returns-2 : tie.Need-returns-2
-returns-2 c = of-left _ _ (c .before .before .before .before .before .before .if1 .left) (of-taken _ _ (c .before .before .before .before .before .if2 .taken) (c .before .before .bytes2 .ensures))
+returns-2 c =
+    let second-test = c .before .before .before .before .before in
+    let test = second-test .before in
+    of-left _ _ (test .if1 .left) (of-taken _ _ (second-test .if2 .taken) (c .before .before .bytes2 .ensures))
 
 slice-aggregate-bytes-3 : tie.Need-slice-aggregate-bytes-3
 slice-aggregate-bytes-3 c = search needs
@@ -37,7 +40,11 @@ same-length-3 : tie.Need-same-length-3
 same-length-3 c = search needs
 
 returns-3 : tie.Need-returns-3
-returns-3 c = of-left _ _ (c .before .before .before .before .before .before .before .if1 .left) (of-left _ _ (c .before .before .before .before .before .before .if2 .left) (of-taken _ _ (c .before .before .before .before .before .if3 .taken) (c .before .before .bytes3 .ensures)))
+returns-3 c =
+    let if3 = c .before .before .before .before .before in
+    let second-test = if3 .before in
+    let test = second-test .before in
+    of-left _ _ (test .if1 .left) (of-left _ _ (second-test .if2 .left) (of-taken _ _ (if3 .if3 .taken) (c .before .before .bytes3 .ensures)))
 
 fields-requires : tie.Need-fields-requires
 fields-requires c κs = search needs
@@ -46,7 +53,11 @@ same-length-4 : tie.Need-same-length-4
 same-length-4 c = search needs
 
 returns-4 : tie.Need-returns-4
-returns-4 c = of-left _ _ (c .before .before .before .before .before .before .if1 .left) (of-left _ _ (c .before .before .before .before .before .if2 .left) (of-left _ _ (c .before .before .before .before .if3 .left) (c .before .before .fields .ensures)))
+returns-4 c =
+    let if3 = c .before .before .before .before in
+    let second-test = if3 .before in
+    let test = second-test .before in
+    of-left _ _ (test .if1 .left) (of-left _ _ (second-test .if2 .left) (of-left _ _ (if3 .if3 .left) (c .before .before .fields .ensures)))
 
 pub row-words-spec : {M : Type 1} → statement M
 row-words-spec =

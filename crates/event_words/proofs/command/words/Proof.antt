@@ -24,7 +24,12 @@ same-length c = search needs
 
 returns : tie.Need-returns
 unfolding commandWords
-returns c = let given = c .before .before .before .before .before .before .before .before .before .before .before .args in wrote-then (omega (arith, c .before .before .before .before .before .before .before .before .before .before .before .good .1 .1 .0)) (c .before .before .before .before .before .before .before .bytes .ensures) (wrote-same (ap (λ (i : ℕ). rowWords (given .registers) (given .byte) i) (c .before .before .before .before .row-at .ensures)) (c .before .before .row-words .ensures))
+returns c =
+    let row-at = c .before .before .before .before in
+    let bytes = row-at .before .before .before in
+    let start = bytes .before .before .before .before in
+    let given = start .args in
+    wrote-then (omega (arith, start .good .1 .1 .0)) (bytes .bytes .ensures) (wrote-same (ap (λ (i : ℕ). rowWords (given .registers) (given .byte) i) (row-at .row-at .ensures)) (c .before .before .row-words .ensures))
 
 pub words-spec : {M : Type 1} → statement M
 words-spec =

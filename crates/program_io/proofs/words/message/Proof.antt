@@ -27,9 +27,12 @@ same-length c = search needs
 
 returns : tie.Need-returns
 returns c =
-    let start = c .before .before .before .before .before .before .before .before .before .before .before .before .before .before .before .before .before .before .before .before in
+    let bytes3 = c .before .before .before .before .before .before in
+    let bytes2 = bytes3 .before .before .before .before in
+    let bytes = bytes2 .before .before .before .before .before in
+    let start = bytes .before .before .before .before .before in
     let room : length (start .args .out .now) ≤ top = omega arith in
-    wrote-then room (wrote-then room (wrote-then room (c .before .before .before .before .before .before .before .before .before .before .before .before .before .before .before .bytes .ensures) (c .before .before .before .before .before .before .before .before .before .before .bytes2 .ensures)) (c .before .before .before .before .before .before .bytes3 .ensures)) (c .before .before .byte .ensures)
+    wrote-then room (wrote-then room (wrote-then room (bytes .bytes .ensures) (bytes2 .bytes2 .ensures)) (bytes3 .bytes3 .ensures)) (c .before .before .byte .ensures)
 
 pub message-spec : {M : Type 1} → statement M
 message-spec =

@@ -33,9 +33,13 @@ same-length c = search needs
 
 returns : tie.Need-returns
 returns c =
-    let start = c .before .before .before .before .before .before .before .before .before .before .before .before .before .before .before .before .before .before .before .before .before .before .before .before .before .before in
+    let bytes4 = c .before .before .before .before .before .before in
+    let bytes3 = bytes4 .before .before .before .before .before in
+    let bytes2 = bytes3 .before .before .before .before in
+    let bytes = bytes2 .before .before .before .before .before in
+    let start = bytes .before .before .before .before .before .before in
     let room : length (start .args .out .now) ≤ top = omega arith in
-    wrote-then room (wrote-then room (wrote-then room (wrote-then room (c .before .before .before .before .before .before .before .before .before .before .before .before .before .before .before .before .before .before .before .before .bytes .ensures) (c .before .before .before .before .before .before .before .before .before .before .before .before .before .before .before .bytes2 .ensures)) (c .before .before .before .before .before .before .before .before .before .before .before .bytes3 .ensures)) (c .before .before .before .before .before .before .bytes4 .ensures)) (c .before .before .usage-line .ensures)
+    wrote-then room (wrote-then room (wrote-then room (wrote-then room (bytes .bytes .ensures) (bytes2 .bytes2 .ensures)) (bytes3 .bytes3 .ensures)) (bytes4 .bytes4 .ensures)) (c .before .before .usage-line .ensures)
 
 pub wrong-call-spec : {M : Type 1} → statement M
 wrong-call-spec =
