@@ -192,7 +192,11 @@ class Sides:
 
     def left(self, words, done, said, output):
         wrong = None
-        if done.said != said:
+        # Where a status is asked for, a call that fails says something and has another than 0.
+        failed = self.with_status and output == b"" and said != b""
+        if done.status < 0 or (done.status != 0) != failed:
+            wrong = f"status {done.status}, with standard error {shown(done.said)}"
+        elif done.said != said:
             wrong = f"standard error\n  {shown(done.said)}\nand not\n  {shown(said)}"
         elif done.output != output:
             wrong = f"output\n  {shown(done.output)}\nand not\n  {shown(output)}"
