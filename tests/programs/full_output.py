@@ -3,17 +3,21 @@
     full_output.py PROGRAMS
 
 PROGRAMS is the directory with the programs. The model's are not held to this. A program has a row in CASES
-for each kind of text that it prints.
+for each kind of text that it prints. At the end stand-ins that go on, as no program may, are held to the same
+and have to be found.
 """
 import os
 import subprocess
 import sys
+import tempfile
 
 import captures
 import lists
 import texts
 
 CAPTURE = texts.capture(captures.GOOD)
+# Some 400 kB: more than any program reads at a time, and more than a pipe holds.
+LARGE = CAPTURE + b"0\n" * 200_000
 SAMPLE = os.path.join(os.path.dirname(os.path.abspath(__file__)), "../../samples/stray.capture")
 # Many lines, so that a program that goes on would say it many times; and a refused input, which prints another line.
 CASES = [
@@ -26,6 +30,8 @@ CASES = [
     (["state"], CAPTURE), (["state"], b""), (["state", "--help"], b""),
     (["trace"], CAPTURE), (["trace"], b""), (["trace", "--help"], b""),
     (["instructions"], b""), (["cases_run"], b""),
+    (["replay"], LARGE), (["view"], LARGE), (["who", "8", "5"], LARGE), (["state"], LARGE), (["trace"], LARGE),
+    (["compare", "-", SAMPLE], LARGE),
 ]
 SECONDS = 60
 
@@ -34,10 +40,14 @@ SECONDS = 60
 OUTPUTS = [('exec "$@" >/dev/full', b"No space left on device"), ('exec "$@" >&-', b"Bad file descriptor")]
 
 
+def started(directory, words, start):
+    """The words that start the program with such an output."""
+    return ["sh", "-c", start, "sh", os.path.join(directory, words[0])] + words[1:]
+
+
 def wrong(directory, words, data, start, reason):
     """What is wrong with the program, or None."""
-    program = [os.path.join(directory, words[0])] + words[1:]
-    done = subprocess.run(["sh", "-c", start, "sh"] + program, input=data, stdout=subprocess.PIPE,
+    done = subprocess.run(started(directory, words, start), input=data, stdout=subprocess.PIPE,
                           stderr=subprocess.PIPE, timeout=SECONDS)
     if done.returncode < 0:
         return f"ended by signal {-done.returncode}"
@@ -46,15 +56,60 @@ def wrong(directory, words, data, start, reason):
     return None
 
 
+def reads_on(directory, start):
+    """Whether trace, which prints as it reads, takes all of a large capture though nothing that it prints is taken."""
+    process = subprocess.Popen(started(directory, ["trace"], start), stdin=subprocess.PIPE, stdout=subprocess.PIPE,
+                               stderr=subprocess.PIPE, bufsize=0)
+    left = LARGE
+    try:
+        while left:
+            left = left[os.write(process.stdin.fileno(), left):]
+    except BrokenPipeError:
+        pass
+    process.communicate(timeout=SECONDS)
+    return not left
+
+
+def faults(directory):
+    """What is wrong with the programs of this directory, call by call."""
+    for start, reason in OUTPUTS:
+        for words, data in CASES:
+            fault = wrong(directory, words, data, start, reason)
+            if fault:
+                yield f"{' '.join(words)}, {start}, input {data[:60]!r} of {len(data)} bytes: {fault}"
+        if reads_on(directory, start):
+            yield f"trace, {start}: reads on to the end of its input"
+
+
+SAY = "os.write(2, b'trace: standard output: No space left on device\\n')"
+# What a trace that goes on does: says it for each part, or says it once and reads on.
+GOING_ON = [f"while os.read(0, 65536): {SAY}", f"os.read(0, 65536); {SAY}\nwhile os.read(0, 65536): pass"]
+
+
+def found_out(code):
+    """Whether a trace of this code is found to go on."""
+    start, reason = OUTPUTS[0]
+    with tempfile.TemporaryDirectory() as directory:
+        path = os.path.join(directory, "trace")
+        with open(path, "w") as file:
+            file.write(f"#!{sys.executable} -S\nimport os\n{code}\n")
+        os.chmod(path, 0o755)
+        # As the first case of trace has it, nothing is to be seen.
+        if wrong(directory, ["trace"], CAPTURE, start, reason):
+            return False
+        return wrong(directory, ["trace"], LARGE, start, reason) is not None or reads_on(directory, start)
+
+
 def main(words):
     if len(words) != 1:
         sys.exit("usage: full_output.py PROGRAMS")
-    for start, reason in OUTPUTS:
-        for program, data in CASES:
-            fault = wrong(os.path.abspath(words[0]), program, data, start, reason)
-            if fault:
-                sys.exit(f"full output: {' '.join(program)}, {start}, input {data[:60]!r}: {fault}")
-    print(f"full output: {len(OUTPUTS) * len(CASES)} calls, each told once by the program's name")
+    for fault in faults(os.path.abspath(words[0])):
+        sys.exit(f"full output: {fault}")
+    for code in GOING_ON:
+        if not found_out(code):
+            sys.exit(f"full output: a trace that goes on is not found: {code!r}")
+    print(f"full output: {len(OUTPUTS) * (len(CASES) + 1)} calls, each told once by the program's name; "
+          f"{len(GOING_ON)} stand-ins that go on are found")
 
 
 main(sys.argv[1:])
