@@ -13,7 +13,8 @@ PROGRAMS is a directory with replay, draw, view, compare, who, state and trace, 
 - in the documents, each code block whose first line begins with `$ `: what its commands print;
 - docs/glass.png: its pixels;
 - samples/picture: the character of every level, and of a dark and an undriven pixel;
-- the scripts of samples/: statuses and messages, by scripts.py (not where outputs are written);
+- the scripts of samples/ and examples/: statuses and messages, by scripts.py (not where outputs are
+  written);
 - in the documents, each name in back quotes: it has to stand in the project.
 """
 import glob
@@ -167,7 +168,7 @@ def main(words):
         compare_document(sides, path)
     compare_picture(sides)
     compare_characters(sides)
-    made, failed = (0, []) if making else scripts.compare(sides.programs)
+    made, failed = (0, []) if making else scripts.compare(sides.programs, sides.archive)
     wrong = sides.wrong + failed + names.missing()
     if wrong:
         print("samples: DIFFERENT: " + "\n".join(wrong), file=sys.stderr)

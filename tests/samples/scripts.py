@@ -1,113 +1,23 @@
-"""The scripts of samples/: their statuses, what they say where something is wrong, and what they leave behind.
+"""The scripts of samples/ and examples/: their statuses, what they say where something is wrong, and what they leave
+behind. Those that run something that rt makes are in runs.py.
 
 Each case is a call and what is expected of it: its status, and words of its output and of its messages. A script that
 fails says so in lines that begin with its own name, and with no trace of Python.
 """
-import collections
 import os
 import shutil
+import struct
 import subprocess
 import tempfile
 
-Said = collections.namedtuple("Said", "status out error")
+import runs
+from calls import ROOT, Calls, script
 
-ROOT = os.getcwd()
-RUN, PICTURE, BREAK = (os.path.join(ROOT, "samples", name) for name in ("run", "picture", "break"))
+PICTURE, BREAK = (os.path.join(ROOT, "samples", name) for name in ("picture", "break"))
 PIXEL = "P3\n1 1\n255\n0 0 0\n"
 USAGE = "samples/picture --help tells how it is called"
 # A crate that stands on no other, and whose check takes a few seconds.
 SMALL = "text"
-
-
-def called(words, directory=ROOT, given="", **variables):
-    done = subprocess.run(words, cwd=directory, input=given.encode(), stdout=subprocess.PIPE, stderr=subprocess.PIPE,
-                          env={**os.environ, **variables}, timeout=600)
-    return Said(done.returncode, done.stdout.decode(errors="replace"), done.stderr.decode(errors="replace"))
-
-
-class Calls:
-    """Makes calls and keeps what was not as expected."""
-
-    def __init__(self):
-        self.made, self.wrong = 0, []
-
-    def expect(self, words, status, out=None, error=None, **how):
-        """Output and messages are compared whole where they end with a newline, else they have to hold the words."""
-        self.made += 1
-        said = called(words, **how)
-        good = said.status == status and self.fits(said.out, out) and self.fits(said.error, error)
-        if not good or "Traceback" in said.error:
-            self.wrong.append(f"{' '.join(words)}: {said}, and not status {status}, {out!r}, {error!r}"[:1000])
-        return said
-
-    @staticmethod
-    def fits(text, wanted):
-        if wanted is None:
-            return text == ""
-        return text == wanted if wanted.endswith("\n") else wanted in text
-
-
-# ---- samples/run
-
-
-def runs(calls, programs):
-    last = "The last write is event 65, line 66 of %s: byte 0 into column 43 of bank 2.\n"
-    known = {"PROGRAMS": programs}
-    absolute = os.path.join(ROOT, "samples/stray.capture")
-    for words, directory, name in (
-            ([RUN], "/", absolute), (["samples/run"], ROOT, "samples/stray.capture"),
-            (["./run", "stray.capture"], "samples", "stray.capture"),
-            (["../run", "../stray.capture"], "samples/expected", "../stray.capture"), ([RUN, absolute], "/", absolute)):
-        calls.expect(words, 0, out=(last % name)[:-1], directory=directory, **known)
-    with open(absolute) as file:
-        calls.expect([RUN, "-"], 0, out=(last % "standard input")[:-1], given=file.read(), **known)
-    calls.expect([RUN, "--help"], 0, out="usage: samples/run [CAPTURE]\n", **known)
-    calls.expect([RUN, "a", "b"], 2, error="samples/run: too many arguments; usage: samples/run [CAPTURE]\n", **known)
-
-
-def bad_runs(calls, programs):
-    with tempfile.TemporaryDirectory() as directory:
-        with open(os.path.join(directory, "with blank"), "w") as file:
-            file.write("pins\t0\n256\n261\n")
-        calls.expect([RUN, "with blank"], 1, out="refused\t3\n", directory=directory, PROGRAMS=programs,
-                     error="samples/run: line 3 of with blank is bad: not what a capture has there\n")
-        calls.expect([RUN, "none"], 1, error="samples/run: none: there is no such file\n", directory=directory,
-                     PROGRAMS=programs)
-        calls.expect([RUN, "."], 1, error="samples/run: .: is a directory\n", directory=directory, PROGRAMS=programs)
-        calls.expect([RUN, "with blank"], 1, error=f"samples/run: there is no {directory}/replay\n", directory=directory,
-                     PROGRAMS=directory)
-
-
-def script(path, *lines):
-    os.makedirs(os.path.dirname(path), exist_ok=True)
-    with open(path, "w") as file:
-        file.write("\n".join(("#!/bin/sh",) + lines) + "\n")
-    os.chmod(path, 0o755)
-
-
-def first_runs(calls, programs):
-    """Where the program is not there, rt is asked for it: here something that goes by its name."""
-    with tempfile.TemporaryDirectory() as project:
-        for name in ("run", "stray.capture"):
-            os.makedirs(os.path.join(project, "samples"), exist_ok=True)
-            shutil.copy(f"samples/{name}", os.path.join(project, "samples"))
-        rt, path = os.path.join(project, "bin/rt"), f"{project}/bin:{os.environ['PATH']}"
-        environment = {"PATH": path, "PROGRAMS": ""}
-        run = [os.path.join(project, "samples/run")]
-        log = os.path.join(project, "target/samples-run.log")
-
-        script(rt, "echo 'rt: text proved (9 s)'", "echo 'a fact of it'", "echo 'rt: FAILED: capture' >&2", "exit 1")
-        calls.expect(run, 1, error="samples/run: proving and making replay, a line for each crate; this takes about three "
-                     "minutes\nsamples/run: text proved (9 s)\nsamples/run: FAILED: capture\n"
-                     f"samples/run: replay could not be made; {log} says why\n", **environment)
-        with open(log) as file:
-            calls.made += 1
-            if "a fact of it" not in file.read():
-                calls.wrong.append(f"{log} does not have what rt said")
-        script(rt, "echo 'rt: text proved (9 s)'", "[ \"$*\" = 'check replay' ] || exit 1",
-               f"mkdir -p target/bin && cp '{programs}/replay' target/bin")
-        calls.expect(run, 0, out="The last write is event 65", error="samples/run: text proved (9 s)", **environment)
-        calls.expect(run, 0, out="The last write is event 65", **environment)
 
 
 # ---- samples/picture
@@ -116,7 +26,6 @@ def first_runs(calls, programs):
 def pictures(calls):
     calls.expect([PICTURE, "text"], 0, out="#\n", given=PIXEL)
     calls.expect([PICTURE, "text", "0-0", "0-0"], 0, out="#\n", given=PIXEL)
-    calls.expect([PICTURE, "png", "1"], 0, out="PNG", given=PIXEL)
     calls.expect([PICTURE, "--help"], 0, out="samples/picture text [ROWS COLUMNS]")
     for given, message in (
             ("", "the input is empty; view prints nothing where it can't read its capture"),
@@ -154,11 +63,21 @@ def wrong_pictures(calls):
             (["text", "0-1", "0-0"], "there are no rows up to 1: the picture has rows 0 to 0"),
             (["text", "0-0", "0-101"], "there are no columns up to 101: the picture has columns 0 to 0")):
         calls.expect([PICTURE, *words], 2, error=f"samples/picture: {message}; {USAGE}\n", given=PIXEL)
+    calls.not_taken([PICTURE, "--help"], "samples/picture: standard output: %s")
     with open("/dev/full", "wb") as full:
         done = subprocess.run([PICTURE, "text"], input=PIXEL.encode(), stdout=full, stderr=subprocess.PIPE)
-    calls.made += 1
-    if done.returncode != 1 or done.stderr != b"samples/picture: standard output: No space left on device\n":
-        calls.wrong.append(f"samples/picture on an output that is full: {done}")
+    calls.hold(done.returncode == 1 and done.stderr == b"samples/picture: standard output: No space left on device\n",
+               f"samples/picture on an output that is full: {done}")
+
+
+def sizes(calls, programs):
+    """A PNG is as wide and as high as its scale says: that stands in its first chunk, IHDR."""
+    glass = subprocess.run([os.path.join(programs, "view"), "samples/stray.capture"], stdout=subprocess.PIPE).stdout
+    for words, scale in ([], 4), (["1"], 1), (["3"], 3), (["64"], 64):
+        done = subprocess.run([PICTURE, "png", *words], input=glass, stdout=subprocess.PIPE, stderr=subprocess.PIPE)
+        head = b"\x89PNG\r\n\x1a\n" + struct.pack(">I4sII", 13, b"IHDR", 101 * scale, 67 * scale)
+        calls.hold(done.returncode == 0 and done.stdout.startswith(head) and not done.stderr,
+                   f"samples/picture png {words}: {done.returncode}, {done.stdout[:24]}, {done.stderr}")
 
 
 # ---- samples/break
@@ -171,6 +90,8 @@ def wrong_breaks(calls):
         calls.expect([BREAK, word], 2, error=f"samples/break: there is no edit {word}; near to it: {near}")
     calls.expect([BREAK, "a", "b"], 2, error="samples/break: too many arguments; usage: samples/break [EDIT]\n")
     calls.expect([BREAK, "leading_zero_accepted"], 2, error="is an edit of more than one crate: ")
+    for words in [], ["--help"], ["mirror_without_mx"]:
+        calls.not_taken([BREAK, *words], "samples/break: standard output: %s")
 
 
 def small_project(to):
@@ -251,15 +172,14 @@ def breaks_above(calls):
                          PATH=f"{project}/bin:{os.environ['PATH']}")
 
 
-def compare(programs):
+def compare(programs, archive):
     """How many calls were made, and what was not as expected."""
     calls = Calls()
     programs = os.path.abspath(programs)
-    runs(calls, programs)
-    bad_runs(calls, programs)
-    first_runs(calls, programs)
+    runs.all_of(calls, programs, os.path.abspath(archive))
     pictures(calls)
     wrong_pictures(calls)
+    sizes(calls, programs)
     wrong_breaks(calls)
     breaks(calls)
     breaks_above(calls)
