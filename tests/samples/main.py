@@ -11,7 +11,7 @@ PROGRAMS is a directory with replay, draw, view, compare, who, state and trace, 
 - each pair of captures NAME-1 and NAME-2: what differs, with samples/expected/NAME.compared;
 - each list of samples/: the capture that draws it, with samples/expected/NAME.drawn;
 - in the documents, each code block whose first line begins with `$ `: what its commands print;
-- docs/glass.png: its pixels;
+- docs/glass.png: its pixels, with those of README.md's own command for it;
 - samples/picture: the character of every level, and of a dark and an undriven pixel;
 - the scripts of samples/ and examples/: statuses and messages, by scripts.py (not where outputs are
   written);
@@ -29,7 +29,7 @@ import scripts
 
 DOCUMENTS = ["README.md", "docs/LESSONS.md"]
 PAIRS = ["samples/night"]
-PICTURE = "target/bin/draw 0 samples/glass.list | target/bin/view | samples/picture png"
+PICTURE = "docs/glass.png"
 
 
 class Sides:
@@ -138,11 +138,19 @@ def pixels(png):
     return head + zlib.decompress(data)
 
 
+def picture_command():
+    """The command of README.md that makes the picture, but for where it puts it."""
+    into = f" >{PICTURE}"
+    lines = read("README.md").decode().splitlines()
+    [command] = [line.strip().removesuffix(into) for line in lines if line.endswith(into)]
+    return command
+
+
 def compare_picture(sides):
-    png = sides.printed(PICTURE)
+    png = sides.printed(picture_command())
     if sides.making:
-        write("docs/glass.png", png)
-    sides.compare("docs/glass.png", pixels(png), pixels(read("docs/glass.png")))
+        write(PICTURE, png)
+    sides.compare(PICTURE, pixels(png), pixels(read(PICTURE)))
 
 
 def compare_characters(sides):
