@@ -6,24 +6,6 @@ mod output;
 mod refusal;
 
 use registers::Chip;
-use text::Number;
-
-// 0 to 3, and 4 for anything else.
-fn pins_of(number: Number) -> u8 {
-    match number {
-        Number::Value(n) => { if n < 4 { n as u8 } else { 4 } }
-        Number::Malformed => 4,
-    }
-}
-
-fn pins() -> u8 {
-    let mut word = [0u8; 4];
-    let n = os::arg(1, &mut word);
-    if os::errno() != 0 {
-        return 4;
-    }
-    pins_of(text::decimal::number(&word[..n]))
-}
 
 // Whether the compiler takes the list. It is asked with no room for events: 10 then says that the list is good.
 fn is_good(chip: Chip, list: &[u8], name: &[u8], named: usize) -> bool {
@@ -136,10 +118,10 @@ fn main() {
         wrong_call(b"too many arguments");
         return;
     }
-    let pins = pins();
+    let pins = program_io::number(1);
     if 3 < pins {
         wrong_call(b"PINS is not 0, 1, 2 or 3");
         return;
     }
-    draw_list(pins);
+    draw_list(pins as u8);
 }

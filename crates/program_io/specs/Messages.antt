@@ -6,6 +6,8 @@ use Prim.Native.Nat.{ℕ, _≤_, min}
 use lib.Dec.{eqb, ltb}
 use lib.ListN.{length}
 use lib.Seq.{sets}
+use Rattle.text.specs.declared.Number.{Number}
+use Rattle.text.specs.declared.Number.the-variants.{Value, Malformed}
 use Rattle.text.specs.Text.{bytes, sameBytes}
 
 -- ---- words that mean something as an argument
@@ -17,6 +19,11 @@ isHelp word = sameBytes word (bytes "--help")
 -- standard input is meant
 abbrev pub isDash : List ℕ → Bool
 isDash word = sameBytes word (bytes "-")
+
+-- a number as lists and captures write numbers; 1000, which three digits can't write, for a word that is none
+abbrev pub valueOf : Number → ℕ
+valueOf (Value n) = n
+valueOf Malformed = 1000
 
 -- ---- names
 

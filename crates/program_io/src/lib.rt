@@ -119,6 +119,19 @@ pub fn is_standard_input(argument: usize) -> bool
     words::is_dash(&word[..n])
 }
 
+// The number that an argument is, as lists and captures write numbers. 1000, which three digits can't write, for an argument that is none, or is not
+// there.
+pub fn number(argument: usize) -> u16
+    ensures { λ _. ⌜ NothingPromised ⌝ }
+{
+    let mut word = [0u8; 4];
+    let n = os::arg(argument, &mut word);
+    if os::errno() != 0 {
+        return words::NO_NUMBER;
+    }
+    words::number(&word[..n])
+}
+
 // An input: the file's number, -1 where it can't be opened, which has been said; and how long its name is, the program's in front.
 pub struct Input {
     pub fd: i32,

@@ -1,9 +1,14 @@
 // Words and messages on slices: which words mean something, and how a line is composed. Each is an equation; `crate` hands the lines to the system.
 ghost use mathlib.Core.List.{[], _∷_};
 ghost use mathlib.Core.Path.{_≡_};
+ghost use Rattle.text.specs.Decimal.{numberOf};
 ghost use Rattle.print.specs.Printed.{Wrote};
-ghost use Rattle.program_io.specs.Messages.{isHelp, isDash, shownByte, shownOf, nameOf, titleOf, Began, messageOf, usageOf, wrongCallOf};
+ghost use Rattle.program_io.specs.Messages.{isHelp, isDash, valueOf, shownByte, shownOf, nameOf, titleOf, Began, messageOf, usageOf, wrongCallOf};
+use text::Number;
 use text::search::equal;
+
+// What three digits can't write.
+pub const NO_NUMBER: u16 = 1000;
 
 pub fn is_help(word: &[u8]) -> bool
     ensures { λ r. ⌜ r ≡ isHelp (now (word .entry)) ⌝ }
@@ -15,6 +20,22 @@ pub fn is_dash(word: &[u8]) -> bool
     ensures { λ r. ⌜ r ≡ isDash (now (word .entry)) ⌝ }
 {
     equal(word, b"-")
+}
+
+fn value_of(number: Number) -> u16
+    ensures { λ r. ⌜ r ≡ valueOf number ⌝ }
+{
+    match number {
+        Number::Value(n) => n,
+        Number::Malformed => NO_NUMBER,
+    }
+}
+
+// The number that a word is, of 1 to 3 digits with no leading zero but for 0 itself.
+pub fn number(word: &[u8]) -> u16
+    ensures { λ r. ⌜ r ≡ valueOf (numberOf (now (word .entry))) ⌝ }
+{
+    value_of(text::decimal::number(word))
 }
 
 fn shown_byte(byte: u8) -> u8

@@ -1,24 +1,6 @@
 // who ROW COLUMN [CAPTURE]: plays a capture on a chip after reset and tells of a pixel of the glass what it shows, in which cell it stands, and which
 // event wrote that cell last, or says at which line the capture is bad. The capture is the file that the argument names, or standard input; it is never
 // held as a whole.
-use text::Number;
-
-// 1000, which three digits can't write, for what is no number.
-fn value_of(number: Number) -> usize {
-    match number {
-        Number::Value(n) => n as usize,
-        Number::Malformed => 1000,
-    }
-}
-
-fn number(argument: usize) -> usize {
-    let mut word = [0u8; 4];
-    let n = os::arg(argument, &mut word);
-    if os::errno() != 0 {
-        return 1000;
-    }
-    value_of(text::decimal::number(&word[..n]))
-}
 
 // `name`, its first `named` bytes, is what a message about the capture begins with.
 fn who(fd: i32, name: &[u8], named: usize, row: usize, column: usize) {
@@ -61,15 +43,15 @@ fn main() {
         wrong_call(b"too many arguments");
         return;
     }
-    let row = number(1);
+    let row = program_io::number(1);
     if 66 < row {
         wrong_call(b"ROW is not a number from 0 to 66");
         return;
     }
-    let column = number(2);
+    let column = program_io::number(2);
     if 100 < column {
         wrong_call(b"COLUMN is not a number from 0 to 100");
         return;
     }
-    open_and_tell(row, column);
+    open_and_tell(row as usize, column as usize);
 }
