@@ -27,67 +27,66 @@ same-phase s p e = ap (λ (q : Phase). nothingStored NotAcknowledged (inPhase (s
 
 -- a byte in the phases that take a command, take display data, or take nothing
 pub command-at :
-    (p : Phase) (b number : ℕ) (s : State) → awaitsCommand p ≡ true
-    → onByte p b number s
+    (p : Phase) (b : ℕ) (s : State) → awaitsCommand p ≡ true
+    → onByte p b s
     ≡ nothingStored (Command (answerTo (s .chip .registers .h) b)) (withRegisters (inPhase (s .chip) (phaseAfterContent p)) (commandOf b (s .chip .registers))) s
-command-at Idle b number s t = absurd (false-true t)
-command-at AddressAwaited b number s t = absurd (false-true t)
-command-at Ignoring b number s t = absurd (false-true t)
-command-at ControlAwaited b number s t = absurd (false-true t)
-command-at (OneByte true) b number s t = absurd (false-true t)
-command-at (OneByte false) b number s t = refl
-command-at (EndlessBytes true) b number s t = absurd (false-true t)
-command-at (EndlessBytes false) b number s t = refl
-command-at Reading b number s t = absurd (false-true t)
-command-at ReadEnded b number s t = absurd (false-true t)
+command-at Idle b s t = absurd (false-true t)
+command-at AddressAwaited b s t = absurd (false-true t)
+command-at Ignoring b s t = absurd (false-true t)
+command-at ControlAwaited b s t = absurd (false-true t)
+command-at (OneByte true) b s t = absurd (false-true t)
+command-at (OneByte false) b s t = refl
+command-at (EndlessBytes true) b s t = absurd (false-true t)
+command-at (EndlessBytes false) b s t = refl
+command-at Reading b s t = absurd (false-true t)
+command-at ReadEnded b s t = absurd (false-true t)
 
 pub display-at :
-    (p : Phase) (b number : ℕ) (s : State) → awaitsData p ≡ true
-    → onByte p b number s
+    (p : Phase) (b : ℕ) (s : State) → awaitsData p ≡ true
+    → onByte p b s
     ≡ after Acknowledged (withRegisters (inPhase (s .chip) (phaseAfterContent p)) (nextAddress (s .chip .registers)))
-    (set (s .memory) (placeOf (s .chip .registers)) (storedOf (s .chip .registers) b)) (set (s .writers) (placeOf (s .chip .registers)) number)
-display-at Idle b number s t = absurd (false-true t)
-display-at AddressAwaited b number s t = absurd (false-true t)
-display-at Ignoring b number s t = absurd (false-true t)
-display-at ControlAwaited b number s t = absurd (false-true t)
-display-at (OneByte true) b number s t = refl
-display-at (OneByte false) b number s t = absurd (false-true t)
-display-at (EndlessBytes true) b number s t = refl
-display-at (EndlessBytes false) b number s t = absurd (false-true t)
-display-at Reading b number s t = absurd (false-true t)
-display-at ReadEnded b number s t = absurd (false-true t)
+    (set (s .memory) (placeOf (s .chip .registers)) (storedOf (s .chip .registers) b)) (set (s .writers) (placeOf (s .chip .registers)) (s .count)) (s .count)
+display-at Idle b s t = absurd (false-true t)
+display-at AddressAwaited b s t = absurd (false-true t)
+display-at Ignoring b s t = absurd (false-true t)
+display-at ControlAwaited b s t = absurd (false-true t)
+display-at (OneByte true) b s t = refl
+display-at (OneByte false) b s t = absurd (false-true t)
+display-at (EndlessBytes true) b s t = refl
+display-at (EndlessBytes false) b s t = absurd (false-true t)
+display-at Reading b s t = absurd (false-true t)
+display-at ReadEnded b s t = absurd (false-true t)
 
 pub ignored-at :
-    (p : Phase) (b number : ℕ) (s : State) → s .chip .phase ≡ p → ignoresBytes p ≡ true
-    → onByte p b number s ≡ nothingStored NotAcknowledged (inPhase (s .chip) (phaseAfterIgnored p)) s
-ignored-at Idle b number s e t = same-phase s Idle e
-ignored-at AddressAwaited b number s e t = absurd (false-true t)
-ignored-at Ignoring b number s e t = same-phase s Ignoring e
-ignored-at ControlAwaited b number s e t = absurd (false-true t)
-ignored-at (OneByte rs) b number s e t = absurd (false-true t)
-ignored-at (EndlessBytes rs) b number s e t = absurd (false-true t)
-ignored-at Reading b number s e t = refl
-ignored-at ReadEnded b number s e t = refl
+    (p : Phase) (b : ℕ) (s : State) → s .chip .phase ≡ p → ignoresBytes p ≡ true
+    → onByte p b s ≡ nothingStored NotAcknowledged (inPhase (s .chip) (phaseAfterIgnored p)) s
+ignored-at Idle b s e t = same-phase s Idle e
+ignored-at AddressAwaited b s e t = absurd (false-true t)
+ignored-at Ignoring b s e t = same-phase s Ignoring e
+ignored-at ControlAwaited b s e t = absurd (false-true t)
+ignored-at (OneByte rs) b s e t = absurd (false-true t)
+ignored-at (EndlessBytes rs) b s e t = absurd (false-true t)
+ignored-at Reading b s e t = refl
+ignored-at ReadEnded b s e t = refl
 
 -- an accepted byte, by the phase
 pub by-phase :
     (s : State) (b : ℕ) → b < 256 → refusalOf b s ≡ 0
-    → stepOf b s ≡ onByte (s .chip .phase) b (s .chip .count + 1) (state (counted (s .chip)) (s .memory) (s .writers))
-unfolding accepted applied counted
+    → stepOf b s ≡ onByte (s .chip .phase) b (counted s)
+unfolding accepted applied
 by-phase s b is-byte h =
     accepted-step b s h
-    ∙ ap (λ (e : Event). applied e (s .chip .count + 1) (state (counted (s .chip)) (s .memory) (s .writers))) (byte-event b is-byte)
+    ∙ ap (λ (e : Event). applied e (counted s)) (byte-event b is-byte)
 
 pub in-known-phase :
     (s : State) (b : ℕ) → b < 256 → refusalOf b s ≡ 0 → (p : Phase) → s .chip .phase ≡ p
-    → stepOf b s ≡ onByte p b (s .chip .count + 1) (state (counted (s .chip)) (s .memory) (s .writers))
+    → stepOf b s ≡ onByte p b (counted s)
 in-known-phase s b is-byte h p e =
-    by-phase s b is-byte h ∙ ap (λ (q : Phase). onByte q b (s .chip .count + 1) (state (counted (s .chip)) (s .memory) (s .writers))) e
+    by-phase s b is-byte h ∙ ap (λ (q : Phase). onByte q b (counted s)) e
 
 pub display-step : (s : State) (b : ℕ) → b < 256 → refusalOf b s ≡ 0 → awaitsData (s .chip .phase) ≡ true → stepOf b s ≡ displayed b s
-unfolding counted
 display-step s b is-byte h t =
-    by-phase s b is-byte h ∙ display-at (s .chip .phase) b (s .chip .count + 1) (state (counted (s .chip)) (s .memory) (s .writers)) t
+    by-phase s b is-byte h ∙ display-at (s .chip .phase) b (counted s) t
 
 -- ---- only command bytes are answered as commands
 
@@ -104,29 +103,29 @@ unfolding acknowledge
 acknowledge-none true c = c
 acknowledge-none false c = c
 
-byte-command : (p : Phase) (b number : ℕ) (s : State) → IsCommand (onByte p b number s .answer) → awaitsCommand p ≡ true
-byte-command Idle b number s c = absurd c
-byte-command AddressAwaited b number s c = absurd (acknowledge-none _ c)
-byte-command Ignoring b number s c = absurd c
-byte-command ControlAwaited b number s c = absurd c
-byte-command (OneByte true) b number s c = absurd c
-byte-command (OneByte false) b number s c = refl
-byte-command (EndlessBytes true) b number s c = absurd c
-byte-command (EndlessBytes false) b number s c = refl
-byte-command Reading b number s c = absurd c
-byte-command ReadEnded b number s c = absurd c
+byte-command : (p : Phase) (b : ℕ) (s : State) → IsCommand (onByte p b s .answer) → awaitsCommand p ≡ true
+byte-command Idle b s c = absurd c
+byte-command AddressAwaited b s c = absurd (acknowledge-none _ c)
+byte-command Ignoring b s c = absurd c
+byte-command ControlAwaited b s c = absurd c
+byte-command (OneByte true) b s c = absurd c
+byte-command (OneByte false) b s c = refl
+byte-command (EndlessBytes true) b s c = absurd c
+byte-command (EndlessBytes false) b s c = refl
+byte-command Reading b s c = absurd c
+byte-command ReadEnded b s c = absurd c
 
 applied-command :
-    (v : Event) (number : ℕ) (s : State) → IsCommand (applied v number s .answer) → (isByte v ≡ true) × (awaitsCommand (s .chip .phase) ≡ true)
+    (v : Event) (s : State) → IsCommand (applied v s .answer) → (isByte v ≡ true) × (awaitsCommand (s .chip .phase) ≡ true)
 unfolding applied
-applied-command (Byte b) number s c = (refl, byte-command (s .chip .phase) b number s c)
-applied-command Start number s c = absurd c
-applied-command Stop number s c = absurd c
-applied-command ReadAcknowledged number s c = absurd c
-applied-command ReadNotAcknowledged number s c = absurd c
-applied-command Reset number s c = absurd c
-applied-command (Sensor v) number s c = absurd c
-applied-command Unlisted number s c = absurd c
+applied-command (Byte b) s c = (refl, byte-command (s .chip .phase) b s c)
+applied-command Start s c = absurd c
+applied-command Stop s c = absurd c
+applied-command ReadAcknowledged s c = absurd c
+applied-command ReadNotAcknowledged s c = absurd c
+applied-command Reset s c = absurd c
+applied-command (Sensor v) s c = absurd c
+applied-command Unlisted s c = absurd c
 
 -- the same answer, the same answer to a command
 pub same-command : {a b : CommandAnswer} → Command a ≡ Command b → a ≡ b
@@ -144,12 +143,12 @@ same-command {a} {b} e = subst (λ (x : Answer). held x ≡ b) (sym e) refl
 pub answered-command :
     (e : ℕ) (s : State) → refusalOf e s ≡ 0 → (a : CommandAnswer) → stepOf e s .answer ≡ Command a
     → (e < 256) × (awaitsCommand (s .chip .phase) ≡ true)
-unfolding accepted counted
+unfolding accepted
 answered-command e s h a q =
     let is : IsCommand (accepted e s .answer) =
     subst IsCommand (sym (ap (λ (x : After). x .answer) (sym (accepted-step e s h)) ∙ q)) tt
     in
-    let so = applied-command (eventOf e) (s .chip .count + 1) (state (counted (s .chip)) (s .memory) (s .writers)) is in
+    let so = applied-command (eventOf e) (counted s) is in
     (below (decLt e 256) (so .0), so .1)
   where
     below : Dec (e < 256) → isByte (eventOf e) ≡ true → e < 256

@@ -47,57 +47,57 @@ StoresNothing Unlisted p = Unit
 abbrev Kept : After → State → Type 0
 Kept a s = (a .state .memory ≡ s .memory) × (a .state .writers ≡ s .writers)
 
-byte-stores-nothing : (p : Phase) (b number : ℕ) (s : State) → awaitsData p ≡ false → Kept (onByte p b number s) s
-byte-stores-nothing Idle b number s q = (refl, refl)
-byte-stores-nothing AddressAwaited b number s q = (refl, refl)
-byte-stores-nothing Ignoring b number s q = (refl, refl)
-byte-stores-nothing ControlAwaited b number s q = (refl, refl)
-byte-stores-nothing (OneByte true) b number s q = absurd (true-false q)
-byte-stores-nothing (OneByte false) b number s q = (refl, refl)
-byte-stores-nothing (EndlessBytes true) b number s q = absurd (true-false q)
-byte-stores-nothing (EndlessBytes false) b number s q = (refl, refl)
-byte-stores-nothing Reading b number s q = (refl, refl)
-byte-stores-nothing ReadEnded b number s q = (refl, refl)
+byte-stores-nothing : (p : Phase) (b : ℕ) (s : State) → awaitsData p ≡ false → Kept (onByte p b s) s
+byte-stores-nothing Idle b s q = (refl, refl)
+byte-stores-nothing AddressAwaited b s q = (refl, refl)
+byte-stores-nothing Ignoring b s q = (refl, refl)
+byte-stores-nothing ControlAwaited b s q = (refl, refl)
+byte-stores-nothing (OneByte true) b s q = absurd (true-false q)
+byte-stores-nothing (OneByte false) b s q = (refl, refl)
+byte-stores-nothing (EndlessBytes true) b s q = absurd (true-false q)
+byte-stores-nothing (EndlessBytes false) b s q = (refl, refl)
+byte-stores-nothing Reading b s q = (refl, refl)
+byte-stores-nothing ReadEnded b s q = (refl, refl)
 
-event-stores-nothing : (v : Event) (number : ℕ) (s : State) → StoresNothing v (s .chip .phase) → Kept (applied v number s) s
+event-stores-nothing : (v : Event) (s : State) → StoresNothing v (s .chip .phase) → Kept (applied v s) s
 unfolding applied
-event-stores-nothing (Byte b) number s q = byte-stores-nothing (s .chip .phase) b number s q
-event-stores-nothing Start number s q = (refl, refl)
-event-stores-nothing Stop number s q = (refl, refl)
-event-stores-nothing ReadAcknowledged number s q = (refl, refl)
-event-stores-nothing ReadNotAcknowledged number s q = (refl, refl)
-event-stores-nothing Reset number s q = (refl, refl)
-event-stores-nothing (Sensor v) number s q = (refl, refl)
-event-stores-nothing Unlisted number s q = (refl, refl)
+event-stores-nothing (Byte b) s q = byte-stores-nothing (s .chip .phase) b s q
+event-stores-nothing Start s q = (refl, refl)
+event-stores-nothing Stop s q = (refl, refl)
+event-stores-nothing ReadAcknowledged s q = (refl, refl)
+event-stores-nothing ReadNotAcknowledged s q = (refl, refl)
+event-stores-nothing Reset s q = (refl, refl)
+event-stores-nothing (Sensor v) s q = (refl, refl)
+event-stores-nothing Unlisted s q = (refl, refl)
 
 -- every accepted event adds 1 to the count
-counts-byte : (p : Phase) (b number : ℕ) (s : State) → onByte p b number s .state .chip .count ≡ s .chip .count
+counts-byte : (p : Phase) (b : ℕ) (s : State) → onByte p b s .state .count ≡ s .count
 unfolding controlled
-counts-byte Idle b number s = refl
-counts-byte AddressAwaited b number s = refl
-counts-byte Ignoring b number s = refl
-counts-byte ControlAwaited b number s = refl
-counts-byte (OneByte true) b number s = refl
-counts-byte (OneByte false) b number s = refl
-counts-byte (EndlessBytes true) b number s = refl
-counts-byte (EndlessBytes false) b number s = refl
-counts-byte Reading b number s = refl
-counts-byte ReadEnded b number s = refl
+counts-byte Idle b s = refl
+counts-byte AddressAwaited b s = refl
+counts-byte Ignoring b s = refl
+counts-byte ControlAwaited b s = refl
+counts-byte (OneByte true) b s = refl
+counts-byte (OneByte false) b s = refl
+counts-byte (EndlessBytes true) b s = refl
+counts-byte (EndlessBytes false) b s = refl
+counts-byte Reading b s = refl
+counts-byte ReadEnded b s = refl
 
-counts-event : (v : Event) (number : ℕ) (s : State) → applied v number s .state .chip .count ≡ s .chip .count
+counts-event : (v : Event) (s : State) → applied v s .state .count ≡ s .count
 unfolding applied pulsed sensed
-counts-event (Byte b) number s = counts-byte (s .chip .phase) b number s
-counts-event Start number s = refl
-counts-event Stop number s = refl
-counts-event ReadAcknowledged number s = refl
-counts-event ReadNotAcknowledged number s = refl
-counts-event Reset number s = refl
-counts-event (Sensor v) number s = refl
-counts-event Unlisted number s = refl
+counts-event (Byte b) s = counts-byte (s .chip .phase) b s
+counts-event Start s = refl
+counts-event Stop s = refl
+counts-event ReadAcknowledged s = refl
+counts-event ReadNotAcknowledged s = refl
+counts-event Reset s = refl
+counts-event (Sensor v) s = refl
+counts-event Unlisted s = refl
 
-pub counts-accepted : (e : ℕ) (s : State) → accepted e s .state .chip .count ≡ s .chip .count + 1
-unfolding accepted counted
-counts-accepted e s = counts-event (eventOf e) (s .chip .count + 1) (state (counted (s .chip)) (s .memory) (s .writers))
+pub counts-accepted : (e : ℕ) (s : State) → accepted e s .state .count ≡ s .count + 1
+unfolding accepted
+counts-accepted e s = counts-event (eventOf e) (counted s)
 
 -- an event that is no byte stores nothing
 other-stores-nothing : (v : Event) (p : Phase) → isByte v ≡ false → StoresNothing v p
@@ -114,7 +114,7 @@ other-stores-nothing Unlisted p h = tt
 record Stores (e : ℕ) (s end : State) (k : ℕ) : Type 0 where
   is-stored : StoredAt e s k
   byte : getD (end .memory) k 0 ≡ storedOf (s .chip .registers) e
-  writer : getD (end .writers) k 0 ≡ s .chip .count + 1
+  writer : getD (end .writers) k 0 ≡ s .count + 1
 
 record Passed (e : ℕ) (s end : State) (k : ℕ) : Type 0 where
   misses : StoredAt e s k → ⊥
@@ -123,9 +123,9 @@ record Passed (e : ℕ) (s end : State) (k : ℕ) : Type 0 where
 
 module _ (e : ℕ) (s : State) (k : ℕ) (h : refusalOf e s ≡ 0) (fit : Fit s) where
   nothing-stored : (StoredAt e s k → ⊥) → StoresNothing (eventOf e) (s .chip .phase) → Passed e s (stepOf e s .state) k
-  unfolding accepted counted
+  unfolding accepted
   nothing-stored n q =
-      let same = event-stores-nothing (eventOf e) (s .chip .count + 1) (state (counted (s .chip)) (s .memory) (s .writers)) q in
+      let same = event-stores-nothing (eventOf e) (counted s) q in
       let step = accepted-step e s h in
       record {
         misses = n;
@@ -146,7 +146,7 @@ module _ (e : ℕ) (s : State) (k : ℕ) (h : refusalOf e s ≡ 0) (fit : Fit s)
       at-memory : (x : ℕ) → getD (stepOf e s .state .memory) x 0 ≡ getD (set (s .memory) (placeOf (s .chip .registers)) (storedOf (s .chip .registers) e)) x 0
       at-memory x = ap (λ (a : After). getD (a .state .memory) x 0) step
 
-      at-writers : (x : ℕ) → getD (stepOf e s .state .writers) x 0 ≡ getD (set (s .writers) (placeOf (s .chip .registers)) (s .chip .count + 1)) x 0
+      at-writers : (x : ℕ) → getD (stepOf e s .state .writers) x 0 ≡ getD (set (s .writers) (placeOf (s .chip .registers)) (s .count + 1)) x 0
       at-writers x = ap (λ (a : After). getD (a .state .writers) x 0) step
 
       go : Dec (placeOf (s .chip .registers) ≡ k) → Stores e s (stepOf e s .state) k ⊎ Passed e s (stepOf e s .state) k
@@ -156,7 +156,7 @@ module _ (e : ℕ) (s : State) (k : ℕ) (h : refusalOf e s ≡ 0) (fit : Fit s)
             is-stored = record { is-byte = b; is-data = t; acknowledged = ap (λ (a : After). isAcknowledged (a .answer)) step; at-place = q };
             byte = subst (λ (x : ℕ). getD (stepOf e s .state .memory) x 0 ≡ storedOf (s .chip .registers) e) q
                 (at-memory _ ∙ getD-set-same (s .memory) _ _ 0 (subst (λ (n : ℕ). placeOf (s .chip .registers) < n) (sym (fit .memory-long)) within));
-            writer = subst (λ (x : ℕ). getD (stepOf e s .state .writers) x 0 ≡ s .chip .count + 1) q
+            writer = subst (λ (x : ℕ). getD (stepOf e s .state .writers) x 0 ≡ s .count + 1) q
                 (at-writers _ ∙ getD-set-same (s .writers) _ _ 0 (subst (λ (n : ℕ). placeOf (s .chip .registers) < n) (sym (fit .writers-long)) within));
           })
       go (no d) =
@@ -179,7 +179,7 @@ module _ (e : ℕ) (s : State) (k : ℕ) (h : refusalOf e s ≡ 0) (fit : Fit s)
 -- ---- the run
 
 -- how the first event and the rest of a run come together at place k
-module _ (e : ℕ) (es : List ℕ) (s end : State) (n k : ℕ) (up : stepOf e s .state .chip .count ≡ s .chip .count + 1) where
+module _ (e : ℕ) (es : List ℕ) (s end : State) (n k : ℕ) (up : stepOf e s .state .count ≡ s .count + 1) where
   then-written : Written es n (stepOf e s .state) end k → Written (e ∷ es) (suc n) s end k
   then-written w =
       record {
@@ -250,7 +250,7 @@ from-written (e ∷ es) s k fit = go (refusalOf e s) refl (from-written es (acce
     go zero q rest =
         let o = runFrom 0 es (accepted e s .state) in
         let step = accepted-step e s q in
-        let up : stepOf e s .state .chip .count ≡ s .chip .count + 1 = ap (λ (a : After). a .state .chip .count) step ∙ counts-accepted e s in
+        let up : stepOf e s .state .count ≡ s .count + 1 = ap (λ (a : After). a .state .count) step ∙ counts-accepted e s in
         let then : PlaceAfter es (o .done) (stepOf e s .state) (o .state) k = subst (λ (a : After). PlaceAfter es (o .done) (a .state) (o .state) k) (sym step) rest in
         let both : PlaceAfter (e ∷ es) (suc (o .done)) s (o .state) k = joined e es s (o .state) (o .done) k up (effect e s k q fit) then in
         subst (λ (r : Outcome). PlaceAfter (e ∷ es) (r .done) s (r .state) k) (sym (run-shift 1 es (accepted e s .state)))

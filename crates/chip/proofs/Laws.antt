@@ -66,63 +66,60 @@ stays-fit e s h fit = rw (accepted-step e s h) (accepted-fit e s fit)
 -- ---- events that are not refused, one law each
 
 module _ (s : State) where
-  pub start-law : refusalOf 256 s ≡ 0 → stepOf 256 s ≡ nothingStored Nothing (inPhase (counted (s .chip)) AddressAwaited) s
+  pub start-law : refusalOf 256 s ≡ 0 → stepOf 256 s ≡ nothingStored Nothing (inPhase (s .chip) AddressAwaited) (counted s)
   unfolding accepted applied
   start-law h = accepted-step 256 s h
 
-  pub stop-law : refusalOf 257 s ≡ 0 → stepOf 257 s ≡ nothingStored Nothing (inPhase (counted (s .chip)) Idle) s
+  pub stop-law : refusalOf 257 s ≡ 0 → stepOf 257 s ≡ nothingStored Nothing (inPhase (s .chip) Idle) (counted s)
   unfolding accepted applied
   stop-law h = accepted-step 257 s h
 
   -- a byte read, acknowledged by the master, and one that is not: the second ends the read
-  pub read-law : refusalOf 258 s ≡ 0 → stepOf 258 s ≡ nothingStored (Read (readByte (s .chip))) (counted (s .chip)) s
-  unfolding accepted applied counted readByte
+  pub read-law : refusalOf 258 s ≡ 0 → stepOf 258 s ≡ nothingStored (Read (readByte (s .chip))) (s .chip) (counted s)
+  unfolding accepted applied readByte
   read-law h = accepted-step 258 s h
 
   pub last-read-law :
-      refusalOf 259 s ≡ 0 → stepOf 259 s ≡ nothingStored (Read (readByte (s .chip))) (inPhase (counted (s .chip)) (phaseAfterLastRead (s .chip .phase))) s
-  unfolding accepted applied counted readByte
+      refusalOf 259 s ≡ 0 → stepOf 259 s ≡ nothingStored (Read (readByte (s .chip))) (inPhase (s .chip) (phaseAfterLastRead (s .chip .phase))) (counted s)
+  unfolding accepted applied readByte
   last-read-law h = accepted-step 259 s h
 
   -- the reset pulse touches neither memory, count nor pins
-  pub reset-law : refusalOf 260 s ≡ 0 → stepOf 260 s ≡ nothingStored Nothing (pulsed (counted (s .chip))) s
+  pub reset-law : refusalOf 260 s ≡ 0 → stepOf 260 s ≡ nothingStored Nothing (pulsed (s .chip)) (counted s)
   unfolding accepted applied
   reset-law h = accepted-step 260 s h
 
-  pub sensor-law : (v : ℕ) → v < 256 → refusalOf (512 + v) s ≡ 0 → stepOf (512 + v) s ≡ nothingStored Nothing (sensed v (counted (s .chip))) s
+  pub sensor-law : (v : ℕ) → v < 256 → refusalOf (512 + v) s ≡ 0 → stepOf (512 + v) s ≡ nothingStored Nothing (sensed v (s .chip)) (counted s)
   unfolding accepted applied
   sensor-law v b h =
       accepted-step (512 + v) s h
-      ∙ ap (λ (e : Event). applied e (s .chip .count + 1) (state (counted (s .chip)) (s .memory) (s .writers))) (sensor-event v b)
+      ∙ ap (λ (e : Event). applied e (counted s)) (sensor-event v b)
 
   -- a byte from the master: address, control byte, command, display byte, or one that is ignored
   module _ (b : ℕ) (is-byte : b < 256) (h : refusalOf b s ≡ 0) where
     pub address-law :
         s .chip .phase ≡ AddressAwaited
         → stepOf b s
-        ≡ nothingStored (acknowledge (isAddressed (s .chip .pins) b)) (inPhase (counted (s .chip)) (phaseAfterAddress (isAddressed (s .chip .pins) b) b)) s
-    unfolding counted
+        ≡ nothingStored (acknowledge (isAddressed (s .chip .pins) b)) (inPhase (s .chip) (phaseAfterAddress (isAddressed (s .chip .pins) b) b)) (counted s)
     address-law e = in-known-phase s b is-byte h AddressAwaited e
 
-    pub control-law : s .chip .phase ≡ ControlAwaited → stepOf b s ≡ nothingStored Acknowledged (controlled b (counted (s .chip))) s
+    pub control-law : s .chip .phase ≡ ControlAwaited → stepOf b s ≡ nothingStored Acknowledged (controlled b (s .chip)) (counted s)
     control-law e = in-known-phase s b is-byte h ControlAwaited e
 
     pub command-law :
         awaitsCommand (s .chip .phase) ≡ true
         → stepOf b s
         ≡ nothingStored (Command (answerTo (s .chip .registers .h) b))
-        (withRegisters (inPhase (counted (s .chip)) (phaseAfterContent (s .chip .phase))) (commandOf b (s .chip .registers))) s
-    unfolding counted
+        (withRegisters (inPhase (s .chip) (phaseAfterContent (s .chip .phase))) (commandOf b (s .chip .registers))) (counted s)
     command-law t =
-        by-phase s b is-byte h ∙ command-at (s .chip .phase) b (s .chip .count + 1) (state (counted (s .chip)) (s .memory) (s .writers)) t
+        by-phase s b is-byte h ∙ command-at (s .chip .phase) b (counted s) t
 
     pub display-law : awaitsData (s .chip .phase) ≡ true → stepOf b s ≡ displayed b s
     display-law t = display-step s b is-byte h t
 
-    pub ignored-law : ignoresBytes (s .chip .phase) ≡ true → stepOf b s ≡ nothingStored NotAcknowledged (inPhase (counted (s .chip)) (phaseAfterIgnored (s .chip .phase))) s
-    unfolding counted
+    pub ignored-law : ignoresBytes (s .chip .phase) ≡ true → stepOf b s ≡ nothingStored NotAcknowledged (inPhase (s .chip) (phaseAfterIgnored (s .chip .phase))) (counted s)
     ignored-law t =
-        by-phase s b is-byte h ∙ ignored-at (s .chip .phase) b (s .chip .count + 1) (state (counted (s .chip)) (s .memory) (s .writers)) refl t
+        by-phase s b is-byte h ∙ ignored-at (s .chip .phase) b (counted s) refl t
 
 -- taken, unknown or out of range: each exactly when an accepted byte comes as a command, and the sheet says so of it in the present page
 pub answered-exactly :
@@ -176,7 +173,7 @@ untaken-law b s byte h t untaken =
     ∙ untaken-kept b (s .chip .registers) (λ q. untaken (ap (λ (x : After). x .answer) law ∙ ap Command q))
 
 -- every accepted event adds 1 to the count, and that is its number
-pub count-law : (e : ℕ) (s : State) → refusalOf e s ≡ 0 → stepOf e s .state .chip .count ≡ s .chip .count + 1
+pub count-law : (e : ℕ) (s : State) → refusalOf e s ≡ 0 → stepOf e s .state .count ≡ s .count + 1
 count-law e s h = rw (accepted-step e s h) (counts-accepted e s)
 
 -- ---- runs

@@ -88,7 +88,6 @@ module _ (r : Registers) (m : List ℕ) (pins n : ℕ) (s : State) (v : Visible 
   no-byte e h above = record { not-refused = h; acknowledged = λ b. absurd (omega arith); taken = λ b. absurd (omega arith) }
 
   start-plays : Good 256 s × Stands AddressAwaited r m pins n (stepOf 256 s .state)
-  unfolding counted
   start-plays =
       let h = accepts 256 (inl (omega arith)) in (
         no-byte 256 h (omega arith),
@@ -96,7 +95,6 @@ module _ (r : Registers) (m : List ℕ) (pins n : ℕ) (s : State) (v : Visible 
       )
 
   stop-plays : Good 257 s × Stands Idle r m pins n (stepOf 257 s .state)
-  unfolding counted
   stop-plays =
       let h = accepts 257 (inl (omega arith)) in (
         no-byte 257 h (omega arith),
@@ -118,7 +116,7 @@ module _ (r : Registers) (m : List ℕ) (pins n : ℕ) (s : State) (v : Visible 
   good-other b a h step e n = good-byte b a h step e (λ t. absurd (true-false (sym t ∙ n)))
 
   address-plays : s .chip .phase ≡ AddressAwaited → Good (writeAddress pins) s × Stands ControlAwaited r m pins n (stepOf (writeAddress pins) s .state)
-  unfolding counted isAddressed phaseAfterAddress acknowledge isAcknowledged
+  unfolding isAddressed phaseAfterAddress acknowledge isAcknowledged
   address-plays e =
       let low : pins ≤ 3 = subst (λ (x : ℕ). x ≤ 3) (v .pins-are) (allowed-pins (s .chip) (v .fit .is-allowed)) in
       let byte : writeAddress pins < 256 = omega arith in
@@ -131,21 +129,21 @@ module _ (r : Registers) (m : List ℕ) (pins n : ℕ) (s : State) (v : Visible 
       )
 
   single-plays : s .chip .phase ≡ ControlAwaited → Good 128 s × Stands (OneByte false) r m pins n (stepOf 128 s .state)
-  unfolding counted controlled isAcknowledged
+  unfolding controlled isAcknowledged
   single-plays e =
       let h = accepts-byte 128 (omega arith) in
       let law = control-law s 128 (omega arith) h e in
       (good-other 128 _ h law refl (ap awaitsCommand e), stands 128 h _ law (OneByte false) r m refl (v .registers) (v .memory) (v .pins-are))
 
   data-plays : s .chip .phase ≡ ControlAwaited → Good 64 s × Stands (EndlessBytes true) r m pins n (stepOf 64 s .state)
-  unfolding counted controlled isAcknowledged
+  unfolding controlled isAcknowledged
   data-plays e =
       let h = accepts-byte 64 (omega arith) in
       let law = control-law s 64 (omega arith) h e in
       (good-other 64 _ h law refl (ap awaitsCommand e), stands 64 h _ law (EndlessBytes true) r m refl (v .registers) (v .memory) (v .pins-are))
 
   command-plays : (b : ℕ) (r′ : Registers) → Does b r r′ → s .chip .phase ≡ OneByte false → Good b s × Stands ControlAwaited r′ m pins n (stepOf b s .state)
-  unfolding counted isAcknowledged
+  unfolding isAcknowledged
   command-plays b r′ does e =
       let h = accepts-byte b (does .is-byte) in
       let law = command-law s b (does .is-byte) h (simp e) in
@@ -156,7 +154,7 @@ module _ (r : Registers) (m : List ℕ) (pins n : ℕ) (s : State) (v : Visible 
   display-plays :
       (b : ℕ) → b < 256 → s .chip .phase ≡ EndlessBytes true
       → Good b s × Stands (EndlessBytes true) (nextAddress r) (set m (placeOf r) (storedOf r b)) pins n (stepOf b s .state)
-  unfolding counted isAcknowledged
+  unfolding isAcknowledged
   display-plays b byte e =
       let h = accepts-byte b byte in
       let law = display-law s b byte h (simp e) in (

@@ -41,7 +41,7 @@ listed-false e n = go (isListedEvent e) refl
 -- the order of the tests, and what each outcome says
 decided :
     (e : ℕ) (s : State) (m w a l f : Bool) → eqb (length (s .memory)) places ≡ m → eqb (length (s .writers)) places ≡ w → allowed (s .chip) ≡ a
-    → isListedEvent e ≡ l → eqb (s .chip .count) (2 ^ 64 - 1) ≡ f
+    → isListedEvent e ≡ l → eqb (s .count) (2 ^ 64 - 1) ≡ f
     → When e s ((refuse (not m || not w) 1 then refuse (not a) 2) then refuse (not l) 3 then refuse f 4)
 decided e s false w a l f em ew ea el ef = λ h. eqb-false _ _ em (h .memory-long)
 decided e s true false a l f em ew ea el ef = λ h. eqb-false _ _ ew (h .writers-long)
@@ -58,7 +58,7 @@ decided e s true true true true false em ew ea el ef =
 pub refusal-when : (e : ℕ) (s : State) → When e s (refusalOf e s)
 unfolding refusalOf entryRefusal eventRefusal
 refusal-when e s =
-    decided e s (eqb (length (s .memory)) places) (eqb (length (s .writers)) places) (allowed (s .chip)) (isListedEvent e) (eqb (s .chip .count) (2 ^ 64 - 1))
+    decided e s (eqb (length (s .memory)) places) (eqb (length (s .writers)) places) (allowed (s .chip)) (isListedEvent e) (eqb (s .count) (2 ^ 64 - 1))
     refl refl refl refl refl
 
 lengths-wrong : (s : State) → (Lengths s → ⊥) → not (eqb (length (s .memory)) places) || not (eqb (length (s .writers)) places) ≡ true

@@ -74,20 +74,20 @@ pub run-next : (e : ℕ) (es : List ℕ) (s : State) → refusalOf e s ≡ 0 →
 run-next e es s h = run-then (e ∷ []) es s ∙ rw (run-one e s, h)
 
 -- a run adds to the count as many as it has done
-pub run-counts : (es : List ℕ) (s : State) → runOf es s .state .chip .count ≡ s .chip .count + runOf es s .done
+pub run-counts : (es : List ℕ) (s : State) → runOf es s .state .count ≡ s .count + runOf es s .done
 unfolding runOf runFrom
 run-counts es s = by (entryRefusal s)
   where
-    from : (es : List ℕ) (s : State) → runFrom 0 es s .state .chip .count ≡ s .chip .count + runFrom 0 es s .done
-    from [] s = sym (add-zero (s .chip .count))
+    from : (es : List ℕ) (s : State) → runFrom 0 es s .state .count ≡ s .count + runFrom 0 es s .done
+    from [] s = sym (add-zero (s .count))
     from (e ∷ es) s = go (refusalOf e s) (from es (accepted e s .state))
       where
         go :
-            (k : ℕ) → runFrom 0 es (accepted e s .state) .state .chip .count ≡ accepted e s .state .chip .count + runFrom 0 es (accepted e s .state) .done
-            → unlessStopped k 0 s (runFrom 1 es (accepted e s .state)) .state .chip .count ≡ s .chip .count + unlessStopped k 0 s (runFrom 1 es (accepted e s .state)) .done
+            (k : ℕ) → runFrom 0 es (accepted e s .state) .state .count ≡ accepted e s .state .count + runFrom 0 es (accepted e s .state) .done
+            → unlessStopped k 0 s (runFrom 1 es (accepted e s .state)) .state .count ≡ s .count + unlessStopped k 0 s (runFrom 1 es (accepted e s .state)) .done
         go zero h = rw (run-shift 1 es (accepted e s .state)) (h ∙ omega (arith, counts-accepted e s))
-        go (suc k) h = sym (add-zero (s .chip .count))
+        go (suc k) h = sym (add-zero (s .count))
 
-    by : (x : ℕ) → unlessStopped x 0 s (runFrom 0 es s) .state .chip .count ≡ s .chip .count + unlessStopped x 0 s (runFrom 0 es s) .done
+    by : (x : ℕ) → unlessStopped x 0 s (runFrom 0 es s) .state .count ≡ s .count + unlessStopped x 0 s (runFrom 0 es s) .done
     by zero = from es s
-    by (suc x) = sym (add-zero (s .chip .count))
+    by (suc x) = sym (add-zero (s .count))

@@ -4,11 +4,11 @@ use lib.ListN.{set}
 use Rattle.registers.specs.Record.{inPhase, withRegisters}
 use Rattle.registers.specs.State.{State}
 use Rattle.phases.specs.Phases.{phaseAfterContent}
-use Rattle.chip.specs.Promised.{Acknowledged, After, after, counted, storedOf, placeOf, nextAddress}
+use Rattle.chip.specs.Promised.{Acknowledged, After, after, storedOf, placeOf, nextAddress}
 
 -- display byte b is stored as the registers say, with the event's number, and the address moves on
 abbrev pub displayed : ℕ → State → After
 displayed b s =
-    after Acknowledged (withRegisters (inPhase (counted (s .chip)) (phaseAfterContent (s .chip .phase))) (nextAddress (s .chip .registers)))
+    after Acknowledged (withRegisters (inPhase (s .chip) (phaseAfterContent (s .chip .phase))) (nextAddress (s .chip .registers)))
     (set (s .memory) (placeOf (s .chip .registers)) (storedOf (s .chip .registers) b))
-    (set (s .writers) (placeOf (s .chip .registers)) (s .chip .count + 1))
+    (set (s .writers) (placeOf (s .chip .registers)) (s .count + 1)) (s .count + 1)

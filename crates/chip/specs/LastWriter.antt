@@ -48,7 +48,7 @@ pub record Untouched (es : List ℕ) (n : ℕ) (s end : State) (k : ℕ) : Type 
 pub record Written (es : List ℕ) (n : ℕ) (s end : State) (k : ℕ) : Type 0 where
   pub last : LastStored es n s k
   pub byte : getD (end .memory) k 0 ≡ storedByte last
-  pub writer : getD (end .writers) k 0 ≡ s .chip .count + (last .event + 1)
+  pub writer : getD (end .writers) k 0 ≡ s .count + (last .event + 1)
 
 -- place k after n events that took s to end
 abbrev pub PlaceAfter : List ℕ → ℕ → State → State → ℕ → Type 0

@@ -31,7 +31,7 @@ pub record Visible (r : Registers) (m : List ℕ) (pins n : ℕ) (s : State) : T
   pub memory : s .memory ≡ m
   pub pins-are : s .chip .pins ≡ pins
   pub fit : Fit s
-  pub room : s .chip .count + n < 2 ^ 64
+  pub room : s .count + n < 2 ^ 64
 
 -- ---- messages
 

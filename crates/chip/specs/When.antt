@@ -21,11 +21,11 @@ pub record Lengths (s : State) : Type 0 where
 -- the conditions of 0 (no refusal), 1, 2, 3, 4
 abbrev pub conditions : ℕ → State → List (Type 0)
 conditions e s =
-    (Fit s × ListedEvent e × (s .chip .count ≡ 2 ^ 64 - 1 → ⊥))
+    (Fit s × ListedEvent e × (s .count ≡ 2 ^ 64 - 1 → ⊥))
     ∷ (Lengths s → ⊥)
     ∷ (Lengths s × (allowed (s .chip) ≡ false))
     ∷ (Fit s × (ListedEvent e → ⊥))
-    ∷ (Fit s × ListedEvent e × (s .chip .count ≡ 2 ^ 64 - 1))
+    ∷ (Fit s × ListedEvent e × (s .count ≡ 2 ^ 64 - 1))
     ∷ []
 
 abbrev pub When : ℕ → State → ℕ → Type 0

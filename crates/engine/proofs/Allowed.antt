@@ -1,7 +1,7 @@
 -- An allowed record stays allowed after any accepted event, and the lent memories keep their length.
 use mathlib.Core.Path.{_≡_, refl, _∙_}
 use mathlib.Core.Bool.{Bool, true, false}
-use Prim.Native.Nat.{ℕ, _+_, _<_}
+use Prim.Native.Nat.{ℕ, _<_}
 use lib.Dec.{leb}
 use lib.ListN.{length-set}
 use Rattle.registers.specs.declared.Registers.{Registers}
@@ -29,54 +29,54 @@ with-registers-allowed :
 unfolding allowed
 with-registers-allowed c p r h hr = simp (hr, both-right (allowedRegisters (c .registers)) (leb (c .pins) 3) h)
 
-content-fit : (rs : Bool) (p : Phase) (b number : ℕ) (s : State) → Fit s → Fit (contentOf rs p b number s .state)
-content-fit false p b number s fit =
+content-fit : (rs : Bool) (p : Phase) (b : ℕ) (s : State) → Fit s → Fit (contentOf rs p b s .state)
+content-fit false p b s fit =
     let before = allowed-registers (s .chip) (fit .is-allowed) in
     record {
       memory-long = fit .memory-long;
       writers-long = fit .writers-long;
       is-allowed = with-registers-allowed (s .chip) p _ (fit .is-allowed) (command-allowed b (s .chip .registers) before);
     }
-content-fit true p b number s fit =
+content-fit true p b s fit =
     let before = allowed-registers (s .chip) (fit .is-allowed) in
     record {
       memory-long = length-set (s .memory) (placeOf (s .chip .registers)) (storedOf (s .chip .registers) b) ∙ fit .memory-long;
-      writers-long = length-set (s .writers) (placeOf (s .chip .registers)) number ∙ fit .writers-long;
+      writers-long = length-set (s .writers) (placeOf (s .chip .registers)) (s .count) ∙ fit .writers-long;
       is-allowed = with-registers-allowed (s .chip) p _ (fit .is-allowed) (next-allowed (s .chip .registers) before);
     }
 
 -- another record with the same registers and pins
-same-fit : (s : State) (c : Chip) → allowed c ≡ allowed (s .chip) → Fit s → Fit (state c (s .memory) (s .writers))
+same-fit : (s : State) (c : Chip) → allowed c ≡ allowed (s .chip) → Fit s → Fit (state c (s .memory) (s .writers) (s .count))
 same-fit s c e fit = record { memory-long = fit .memory-long; writers-long = fit .writers-long; is-allowed = e ∙ fit .is-allowed }
 
-byte-fit : (p : Phase) (b number : ℕ) (s : State) → Fit s → Fit (onByte p b number s .state)
+byte-fit : (p : Phase) (b : ℕ) (s : State) → Fit s → Fit (onByte p b s .state)
 unfolding allowed controlled
-byte-fit Idle b number s fit = same-fit s (s .chip) refl fit
-byte-fit AddressAwaited b number s fit = same-fit s _ refl fit
-byte-fit Ignoring b number s fit = same-fit s (s .chip) refl fit
-byte-fit ControlAwaited b number s fit = same-fit s _ refl fit
-byte-fit (OneByte rs) b number s fit = content-fit rs ControlAwaited b number s fit
-byte-fit (EndlessBytes rs) b number s fit = content-fit rs (EndlessBytes rs) b number s fit
-byte-fit Reading b number s fit = same-fit s _ refl fit
-byte-fit ReadEnded b number s fit = same-fit s _ refl fit
+byte-fit Idle b s fit = same-fit s (s .chip) refl fit
+byte-fit AddressAwaited b s fit = same-fit s _ refl fit
+byte-fit Ignoring b s fit = same-fit s (s .chip) refl fit
+byte-fit ControlAwaited b s fit = same-fit s _ refl fit
+byte-fit (OneByte rs) b s fit = content-fit rs ControlAwaited b s fit
+byte-fit (EndlessBytes rs) b s fit = content-fit rs (EndlessBytes rs) b s fit
+byte-fit Reading b s fit = same-fit s _ refl fit
+byte-fit ReadEnded b s fit = same-fit s _ refl fit
 
-applied-fit : (v : Event) (number : ℕ) (s : State) → Fit s → Fit (applied v number s .state)
+applied-fit : (v : Event) (s : State) → Fit s → Fit (applied v s .state)
 unfolding applied allowed pulsed sensed
-applied-fit (Byte b) number s fit = byte-fit (s .chip .phase) b number s fit
-applied-fit Start number s fit = same-fit s _ refl fit
-applied-fit Stop number s fit = same-fit s _ refl fit
-applied-fit ReadAcknowledged number s fit = same-fit s _ refl fit
-applied-fit ReadNotAcknowledged number s fit = same-fit s _ refl fit
-applied-fit Reset number s fit =
+applied-fit (Byte b) s fit = byte-fit (s .chip .phase) b s fit
+applied-fit Start s fit = same-fit s _ refl fit
+applied-fit Stop s fit = same-fit s _ refl fit
+applied-fit ReadAcknowledged s fit = same-fit s _ refl fit
+applied-fit ReadNotAcknowledged s fit = same-fit s _ refl fit
+applied-fit Reset s fit =
     record {
       memory-long = fit .memory-long;
       writers-long = fit .writers-long;
       is-allowed = both-right (allowedRegisters (s .chip .registers)) (leb (s .chip .pins) 3) (fit .is-allowed);
     }
-applied-fit (Sensor value) number s fit = same-fit s _ refl fit
-applied-fit Unlisted number s fit = same-fit s _ refl fit
+applied-fit (Sensor value) s fit = same-fit s _ refl fit
+applied-fit Unlisted s fit = same-fit s _ refl fit
 
 pub accepted-fit : (e : ℕ) (s : State) → Fit s → Fit (accepted e s .state)
-unfolding accepted counted allowed
+unfolding accepted
 accepted-fit e s fit =
-    applied-fit (eventOf e) (s .chip .count + 1) (state (counted (s .chip)) (s .memory) (s .writers)) (same-fit s (counted (s .chip)) refl fit)
+    applied-fit (eventOf e) (counted s) (record { memory-long = fit .memory-long; writers-long = fit .writers-long; is-allowed = fit .is-allowed })

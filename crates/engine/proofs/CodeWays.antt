@@ -23,50 +23,50 @@ use Rattle.engine.specs.declared.answer.Answer.the-variants.{Refused, No
 use Rattle.engine.specs.declared.event.Event.{Event}
 use Rattle.engine.specs.Event.{eventOf, isByte, countsAs}
 use Rattle.engine.specs.Run.{Outcome, outcome, runFrom, runOf, unlessStopped, countUnless, tally, answerUnless, answerFrom, lastAnswer}
-use Rattle.engine.specs.Step.{After, after, nothingStored, contentOf, onByte, applied, accepted, counted}
+use Rattle.engine.specs.Step.{After, after, nothingStored, contentOf, onByte, applied, accepted}
 use Rattle.engine.specs.Step.{entryRefusal, eventRefusal, refusalOf, unlessRefused, stepOf}
 use Rattle.engine.proofs.Events.{byte-event}
 use Rattle.engine.proofs.Tallies.{counted-once}
 
 -- ---- a byte
 
-module _ (rs : Bool) (p : Phase) (b number : ℕ) (s : State) where
+module _ (rs : Bool) (p : Phase) (b : ℕ) (s : State) where
   pub display-content :
       (moved c′ : Chip) (next : Registers) (m w : List ℕ) → rs ≡ true → moved ≡ inPhase (s .chip) p → next ≡ nextAddress (s .chip .registers)
       → m ≡ set (s .memory) (placeOf (s .chip .registers)) (storedOf (s .chip .registers) b)
-      → w ≡ set (s .writers) (placeOf (s .chip .registers)) number
+      → w ≡ set (s .writers) (placeOf (s .chip .registers)) (s .count)
       → c′ ≡ withRegisters moved next
-      → after Acknowledged c′ m w ≡ contentOf rs p b number s
+      → after Acknowledged c′ m w (s .count) ≡ contentOf rs p b s
   display-content moved c′ next m w t e n em ew ec = simp (t, ec, e, n, em, ew)
 
   pub command-content :
       (moved c′ : Chip) (a : CommandAnswer) (next : Registers) → rs ≡ false → moved ≡ inPhase (s .chip) p
       → next ≡ commandOf b (s .chip .registers) → a ≡ answerTo (s .chip .registers .h) b → c′ ≡ withRegisters moved next
-      → after (Command a) c′ (s .memory) (s .writers) ≡ contentOf rs p b number s
+      → nothingStored (Command a) c′ s ≡ contentOf rs p b s
   command-content moved c′ a next t e n ea ec = simp (t, ec, e, n, ea)
 
 -- the phase is known: what is right in that phase is right
-pub in-known-phase : (known phase : Phase) (b number : ℕ) (s : State) (a : After) → phase ≡ known → a ≡ onByte known b number s → a ≡ onByte phase b number s
-in-known-phase known phase b number s a e h = subst (λ (p : Phase). a ≡ onByte p b number s) (sym e) h
+pub in-known-phase : (known phase : Phase) (b : ℕ) (s : State) (a : After) → phase ≡ known → a ≡ onByte known b s → a ≡ onByte phase b s
+in-known-phase known phase b s a e h = subst (λ (p : Phase). a ≡ onByte p b s) (sym e) h
 
 -- where content is awaited, the phase says its RS and what comes after it
 in-content-phase :
-    (p : Phase) (b number : ℕ) (s : State) → awaitsContent p ≡ true
-    → contentOf (phaseRs p) (phaseAfterContent p) b number s ≡ onByte p b number s
-in-content-phase Idle b number s t = cc
-in-content-phase AddressAwaited b number s t = cc
-in-content-phase Ignoring b number s t = cc
-in-content-phase ControlAwaited b number s t = cc
-in-content-phase (OneByte rs) b number s t = refl
-in-content-phase (EndlessBytes rs) b number s t = refl
-in-content-phase Reading b number s t = cc
-in-content-phase ReadEnded b number s t = cc
+    (p : Phase) (b : ℕ) (s : State) → awaitsContent p ≡ true
+    → contentOf (phaseRs p) (phaseAfterContent p) b s ≡ onByte p b s
+in-content-phase Idle b s t = cc
+in-content-phase AddressAwaited b s t = cc
+in-content-phase Ignoring b s t = cc
+in-content-phase ControlAwaited b s t = cc
+in-content-phase (OneByte rs) b s t = refl
+in-content-phase (EndlessBytes rs) b s t = refl
+in-content-phase Reading b s t = cc
+in-content-phase ReadEnded b s t = cc
 
 pub content-taken :
-    (p next : Phase) (rs awaits : Bool) (b number : ℕ) (s : State) (a : After)
-    → awaits ≡ awaitsContent p → awaits ≡ true → rs ≡ phaseRs p → next ≡ phaseAfterContent p → a ≡ contentOf rs next b number s
-    → a ≡ onByte p b number s
-content-taken p next rs awaits b number s a e t er en h = h ∙ rw (er, en) (in-content-phase p b number s (sym e ∙ t))
+    (p next : Phase) (rs awaits : Bool) (b : ℕ) (s : State) (a : After)
+    → awaits ≡ awaitsContent p → awaits ≡ true → rs ≡ phaseRs p → next ≡ phaseAfterContent p → a ≡ contentOf rs next b s
+    → a ≡ onByte p b s
+content-taken p next rs awaits b s a e t er en h = h ∙ rw (er, en) (in-content-phase p b s (sym e ∙ t))
 
 -- the phase is known, and is not one that awaits content
 pub no-content : (known phase : Phase) (a a′ : After) → phase ≡ known → awaitsContent known ≡ true → awaitsContent phase ≡ false → a ≡ a′
@@ -76,10 +76,10 @@ no-content known phase a a′ e t f = cc
 
 -- the event is known, and what was made of it: what is right for it is right
 pub in-known-event :
-    (known event : Event) (number : ℕ) (s : State) (a a′ : Answer) (c c₁ c′ : Chip) → event ≡ known → (a ≡ a′) × (c ≡ c₁) → c₁ ≡ c′
-    → nothingStored a′ c′ s ≡ applied known number s → nothingStored a c s ≡ applied event number s
-in-known-event known event number s a a′ c c₁ c′ e made ec h =
-    subst (λ (v : Event). nothingStored a c s ≡ applied v number s) (sym e)
+    (known event : Event) (s : State) (a a′ : Answer) (c c₁ c′ : Chip) → event ≡ known → (a ≡ a′) × (c ≡ c₁) → c₁ ≡ c′
+    → nothingStored a′ c′ s ≡ applied known s → nothingStored a c s ≡ applied event s
+in-known-event known event s a a′ c c₁ c′ e made ec h =
+    subst (λ (v : Event). nothingStored a c s ≡ applied v s) (sym e)
     (ap₂ (λ (x : Answer) (y : Chip). nothingStored x y s) (made .0) (made .1 ∙ ec) ∙ h)
 
 -- the event is known, and is a byte: that does not come here
@@ -87,16 +87,12 @@ pub no-byte-known : (known event : Event) (a a′ : After) → event ≡ known �
 no-byte-known known event a a′ e t f = cc
 
 module _ (e : ℕ) (s : State) (a : After) where
-  pub accept-byte :
-      e < 256 → a ≡ onByte (s .chip .phase) e (s .chip .count + 1) (state (counted (s .chip)) (s .memory) (s .writers)) → a ≡ accepted e s
-  unfolding accepted applied counted
-  accept-byte h q = q ∙ ap (λ (v : Event). applied v (s .chip .count + 1) (state (counted (s .chip)) (s .memory) (s .writers))) (sym (byte-event e h))
+  pub apply-byte : e < 256 → a ≡ onByte (s .chip .phase) e s → a ≡ applied (eventOf e) s
+  unfolding applied
+  apply-byte h q = q ∙ ap (λ (v : Event). applied v s) (sym (byte-event e h))
 
-  pub accept-other :
-      (event : Event) → event ≡ eventOf e
-      → a ≡ applied event (s .chip .count + 1) (state (counted (s .chip)) (s .memory) (s .writers)) → a ≡ accepted e s
-  unfolding accepted
-  accept-other event known h = h ∙ ap (λ (v : Event). applied v (s .chip .count + 1) (state (counted (s .chip)) (s .memory) (s .writers))) known
+  pub apply-other : (event : Event) → event ≡ eventOf e → a ≡ applied event s → a ≡ applied (eventOf e) s
+  apply-other event known h = h ∙ ap (λ (v : Event). applied v s) known
 
 -- ---- a run
 
@@ -211,4 +207,4 @@ pub step-of-run :
     → record { answer = a; state = s′ } ≡ stepOf e s
 unfolding runOf runFrom lastAnswer stepOf refusalOf
 step-of-run e s s′ n k a eo ea =
-    rw (ea, ap (λ (o : Outcome). o .state) eo) (one-event (entryRefusal s) (eventRefusal e (s .chip .count)) (accepted e s) s)
+    rw (ea, ap (λ (o : Outcome). o .state) eo) (one-event (entryRefusal s) (eventRefusal e (s .count)) (accepted e s) s)

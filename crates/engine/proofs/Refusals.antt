@@ -14,7 +14,7 @@ use Rattle.engine.specs.Step.{entryRefusal, eventRefusal, refusalOf, Fit
 pub record Accepts (e : ℕ) (s : State) : Type 0 where
   pub fit : Fit s
   pub listed : isListedEvent e ≡ true
-  pub room : s .chip .count ≡ 2 ^ 64 - 1 → ⊥
+  pub room : s .count ≡ 2 ^ 64 - 1 → ⊥
 
 pub entry-fit : (s : State) → entryRefusal s ≡ 0 → Fit s
 unfolding entryRefusal
@@ -36,8 +36,8 @@ fit-entry s fit = simp (eq-eqb _ _ (fit .memory-long), eq-eqb _ _ (fit .writers-
 pub accepts : (e : ℕ) (s : State) → refusalOf e s ≡ 0 → Accepts e s
 unfolding refusalOf eventRefusal
 accepts e s h =
-    let first = then-zero (entryRefusal s) (eventRefusal e (s .chip .count)) h in
-    let later = then-zero (refuse (not (isListedEvent e)) 3) (refuse (eqb (s .chip .count) (2 ^ 64 - 1)) 4) (first .1) in
+    let first = then-zero (entryRefusal s) (eventRefusal e (s .count)) h in
+    let later = then-zero (refuse (not (isListedEvent e)) 3) (refuse (eqb (s .count) (2 ^ 64 - 1)) 4) (first .1) in
     record {
       fit = entry-fit s (first .0);
       listed = not-false _ (refuse-none _ 2 (later .0));

@@ -8,7 +8,7 @@ use lib.ListN.{length, set}
 use Rattle.registers.specs.declared.Chip.{Chip}
 use Rattle.registers.specs.declared.Phase.{Phase}
 use Rattle.registers.specs.declared.Phase.the-variants.{Idle, AddressAwaited, Ignoring, ControlAwaited, OneByte, EndlessBytes, Reading, ReadEnded}
-use Rattle.registers.specs.Record.{allowed, inPhase, withRegisters, withCount}
+use Rattle.registers.specs.Record.{allowed, inPhase, withRegisters}
 use Rattle.registers.specs.Refusals.{refuse, _then_, lengthsRefusal, recordRefusal, isListedEvent}
 use Rattle.registers.specs.State.{State, state, places}
 use Rattle.commands.specs.Command.{commandOf, answerTo}
@@ -36,7 +36,7 @@ unfoldable pub eventRefusal : ℕ → ℕ → ℕ
 eventRefusal e count = refuse (not (isListedEvent e)) 3 then refuse (eqb count (2 ^ 64 - 1)) 4
 
 unfoldable pub refusalOf : ℕ → State → ℕ
-refusalOf e s = entryRefusal s then eventRefusal e (s .chip .count)
+refusalOf e s = entryRefusal s then eventRefusal e (s .count)
 
 -- what 1 and 2 let pass
 pub record Fit (s : State) : Type 0 where
@@ -44,18 +44,18 @@ pub record Fit (s : State) : Type 0 where
   pub writers-long : length (s .writers) ≡ places
   pub is-allowed : allowed (s .chip) ≡ true
 
--- ---- what comes of an event
+-- ---- what comes of an event: the count is up to date, and is the event's number
 
 pub record After : Type 0 where
   pub answer : Answer
   pub state : State
 
-abbrev pub after : Answer → Chip → List ℕ → List ℕ → After
-after a c m w = record { answer = a; state = Rattle.registers.specs.State.state c m w }
+abbrev pub after : Answer → Chip → List ℕ → List ℕ → ℕ → After
+after a c m w n = record { answer = a; state = Rattle.registers.specs.State.state c m w n }
 
--- this answer and this chip, with both memories as they were
+-- this answer and this chip, with both memories and the count as they were
 abbrev pub nothingStored : Answer → Chip → State → After
-nothingStored a c s = after a c (s .memory) (s .writers)
+nothingStored a c s = after a c (s .memory) (s .writers) (s .count)
 
 -- ---- a byte from the master
 
@@ -63,49 +63,49 @@ unfoldable pub acknowledge : Bool → Answer
 acknowledge t = cond t Acknowledged NotAcknowledged
 
 -- a byte with RS 0 is a command, one with RS 1 display data, stored with the event's number; then the phase is p
-abbrev pub contentOf : Bool → Phase → ℕ → ℕ → State → After
-contentOf false p b number s =
+abbrev pub contentOf : Bool → Phase → ℕ → State → After
+contentOf false p b s =
     nothingStored (Command (answerTo (s .chip .registers .h) b)) (withRegisters (inPhase (s .chip) p) (commandOf b (s .chip .registers))) s
-contentOf true p b number s =
+contentOf true p b s =
     after Acknowledged (withRegisters (inPhase (s .chip) p) (nextAddress (s .chip .registers)))
     (set (s .memory) (placeOf (s .chip .registers)) (storedOf (s .chip .registers) b))
-    (set (s .writers) (placeOf (s .chip .registers)) number)
+    (set (s .writers) (placeOf (s .chip .registers)) (s .count)) (s .count)
 
 -- the answer to an address byte, and the phase after it
 abbrev pub onAddress : Bool → ℕ → State → After
 onAddress matched b s = nothingStored (acknowledge matched) (inPhase (s .chip) (phaseAfterAddress matched b)) s
 
-abbrev pub onByte : Phase → ℕ → ℕ → State → After
-onByte Idle b number s = nothingStored NotAcknowledged (s .chip) s
-onByte AddressAwaited b number s = onAddress (isAddressed (s .chip .pins) b) b s
-onByte Ignoring b number s = nothingStored NotAcknowledged (s .chip) s
-onByte ControlAwaited b number s = nothingStored Acknowledged (controlled b (s .chip)) s
-onByte (OneByte rs) b number s = contentOf rs ControlAwaited b number s
-onByte (EndlessBytes rs) b number s = contentOf rs (EndlessBytes rs) b number s
-onByte Reading b number s = nothingStored NotAcknowledged (inPhase (s .chip) Ignoring) s
-onByte ReadEnded b number s = nothingStored NotAcknowledged (inPhase (s .chip) Ignoring) s
+abbrev pub onByte : Phase → ℕ → State → After
+onByte Idle b s = nothingStored NotAcknowledged (s .chip) s
+onByte AddressAwaited b s = onAddress (isAddressed (s .chip .pins) b) b s
+onByte Ignoring b s = nothingStored NotAcknowledged (s .chip) s
+onByte ControlAwaited b s = nothingStored Acknowledged (controlled b (s .chip)) s
+onByte (OneByte rs) b s = contentOf rs ControlAwaited b s
+onByte (EndlessBytes rs) b s = contentOf rs (EndlessBytes rs) b s
+onByte Reading b s = nothingStored NotAcknowledged (inPhase (s .chip) Ignoring) s
+onByte ReadEnded b s = nothingStored NotAcknowledged (inPhase (s .chip) Ignoring) s
 
 -- ---- the other events
 
-unfoldable pub applied : Event → ℕ → State → After
-applied (Byte b) number s = onByte (s .chip .phase) b number s
-applied Start number s = nothingStored Nothing (inPhase (s .chip) AddressAwaited) s
-applied Stop number s = nothingStored Nothing (inPhase (s .chip) Idle) s
-applied ReadAcknowledged number s = nothingStored (Read (readByte (s .chip))) (s .chip) s
-applied ReadNotAcknowledged number s = nothingStored (Read (readByte (s .chip))) (inPhase (s .chip) (phaseAfterLastRead (s .chip .phase))) s
-applied Reset number s = nothingStored Nothing (pulsed (s .chip)) s
-applied (Sensor value) number s = nothingStored Nothing (sensed value (s .chip)) s
+unfoldable pub applied : Event → State → After
+applied (Byte b) s = onByte (s .chip .phase) b s
+applied Start s = nothingStored Nothing (inPhase (s .chip) AddressAwaited) s
+applied Stop s = nothingStored Nothing (inPhase (s .chip) Idle) s
+applied ReadAcknowledged s = nothingStored (Read (readByte (s .chip))) (s .chip) s
+applied ReadNotAcknowledged s = nothingStored (Read (readByte (s .chip))) (inPhase (s .chip) (phaseAfterLastRead (s .chip .phase))) s
+applied Reset s = nothingStored Nothing (pulsed (s .chip)) s
+applied (Sensor value) s = nothingStored Nothing (sensed value (s .chip)) s
 -- refused before it is applied
-applied Unlisted number s = nothingStored Nothing (s .chip) s
+applied Unlisted s = nothingStored Nothing (s .chip) s
 
 -- ---- the step
 
-unfoldable pub counted : Chip → Chip
-counted c = withCount c (c .count + 1)
+abbrev pub counted : State → State
+counted s = state (s .chip) (s .memory) (s .writers) (s .count + 1)
 
 -- an accepted event first adds 1 to the count, and that is its number
 unfoldable pub accepted : ℕ → State → After
-accepted e s = applied (eventOf e) (s .chip .count + 1) (state (counted (s .chip)) (s .memory) (s .writers))
+accepted e s = applied (eventOf e) (counted s)
 
 abbrev pub unlessRefused : ℕ → After → State → After
 unlessRefused zero a s = a

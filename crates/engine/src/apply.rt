@@ -5,38 +5,43 @@ ghost use mathlib.Core.List.{List};
 ghost use Prim.Native.Nat.{ℕ};
 ghost use Rattle.registers.specs.State.{state};
 ghost use Rattle.engine.specs.declared.answer.Answer.the-variants.{Nothing, Read};
-ghost use Rattle.engine.specs.Event.{isByte};
-ghost use Rattle.engine.specs.Step.{refusalOf, after, applied, accepted};
+ghost use Rattle.engine.specs.Event.{isByte, eventOf};
+ghost use Rattle.engine.specs.Step.{after, applied};
 use crate::answer::Answer;
 use crate::event::Event;
-use crate::step::Stepped;
 use registers::Chip;
 use registers::Phase;
 
-fn without_answer(chip: Chip) -> Stepped
+// The answer to an event, and the chip after it.
+pub struct Applied {
+    pub answer: Answer,
+    pub chip: Chip,
+}
+
+fn without_answer(chip: Chip) -> Applied
     ensures { λ r. ⌜ r .answer ≡ Nothing ⌝ }
     ensures { λ r. ⌜ r .chip ≡ chip ⌝ }
 {
-    Stepped {
+    Applied {
         answer: Answer::Nothing,
         chip,
     }
 }
 
-fn with_byte_read(byte: u8, chip: Chip) -> Stepped
+fn with_byte_read(byte: u8, chip: Chip) -> Applied
     ensures { λ r. ⌜ r .answer ≡ Read byte ⌝ }
     ensures { λ r. ⌜ r .chip ≡ chip ⌝ }
 {
-    Stepped {
+    Applied {
         answer: Answer::Read(byte),
         chip,
     }
 }
 
 // An event that is no byte touches no memory.
-fn on_other_event(event: Event, chip: Chip) -> Stepped
+fn on_other_event(event: Event, chip: Chip) -> Applied
     requires { ⌜ isByte event ≡ false ⌝ }
-    ensures { λ r. ⌜ ((number : ℕ) (m w : List ℕ) → after (r .answer) (r .chip) m w ≡ applied event number (state chip m w)) ⌝ }
+    ensures { λ r. ⌜ ((m w : List ℕ) (n : ℕ) → after (r .answer) (r .chip) m w n ≡ applied event (state chip m w n)) ⌝ }
 {
     match event {
         // a byte does not come here
@@ -58,17 +63,13 @@ fn on_other_event(event: Event, chip: Chip) -> Stepped
     }
 }
 
-// An event that is not refused: it adds 1 to the count, and that is its number.
-pub fn accept(event: u16, chip: Chip, memory: &mut [u8], writers: &mut [u64]) -> Stepped
-    requires { ⌜ refusalOf event (state chip (now memory) (now writers)) ≡ 0 ⌝ }
-    ensures { λ r. ⌜ after (r .answer) (r .chip) (now (memory .exit)) (now (writers .exit))
-        ≡ accepted event (state chip (now (memory .entry)) (now (writers .entry))) ⌝ }
+// What an event does that is not refused. The count is up to date, and is the event's number.
+pub fn apply(event: u16, number: u64, chip: Chip, memory: &mut [u8], writers: &mut [u64]) -> Applied
+    ensures { λ r. ⌜ after (r .answer) (r .chip) (now (memory .exit)) (now (writers .exit)) number
+        ≡ applied (eventOf event) (state chip (now (memory .entry)) (now (writers .entry)) number) ⌝ }
 {
-    let number = chip.count + 1;
-    let mut counted = chip;
-    counted.count = number;
     if event < 256 {
-        return crate::byte::on_byte(event as u8, number, counted, memory, writers);
+        return crate::byte::on_byte(event as u8, number, chip, memory, writers);
     }
-    on_other_event(Event::of(event), counted)
+    on_other_event(Event::of(event), chip)
 }

@@ -9,7 +9,7 @@ ghost use Rattle.engine.specs.declared.answer.Answer.the-variants.{NotAc
 ghost use Rattle.phases.specs.Phases.{isAddressed, phaseAfterAddress, awaitsContent};
 ghost use Rattle.engine.specs.Step.{after, acknowledge, contentOf, onByte};
 use crate::answer::Answer;
-use crate::step::Stepped;
+use crate::apply::Applied;
 use registers::Chip;
 use registers::Phase;
 
@@ -23,38 +23,38 @@ fn acknowledge(taken: bool) -> Answer
     }
 }
 
-fn not_acknowledged(chip: Chip) -> Stepped
+fn not_acknowledged(chip: Chip) -> Applied
     ensures { λ r. ⌜ r .answer ≡ NotAcknowledged ⌝ }
     ensures { λ r. ⌜ r .chip ≡ chip ⌝ }
 {
-    Stepped {
+    Applied {
         answer: Answer::NotAcknowledged,
         chip,
     }
 }
 
-fn on_address(byte: u8, chip: Chip) -> Stepped
+fn on_address(byte: u8, chip: Chip) -> Applied
     ensures { λ r. ⌜ r .answer ≡ acknowledge (isAddressed (chip .pins) byte) ⌝ }
     ensures { λ r. ⌜ r .chip ≡ inPhase chip (phaseAfterAddress (isAddressed (chip .pins) byte) byte) ⌝ }
 {
     let matched = phases::byte::is_addressed(chip.pins, byte);
-    Stepped {
+    Applied {
         answer: acknowledge(matched),
         chip: chip.in_phase(phases::byte::phase_after_address(matched, byte)),
     }
 }
 
 // A byte where no content is awaited: it touches no memory.
-fn on_plain_byte(byte: u8, chip: Chip) -> Stepped
+fn on_plain_byte(byte: u8, chip: Chip) -> Applied
     requires { ⌜ awaitsContent (chip .phase) ≡ false ⌝ }
-    ensures { λ r. ⌜ ((number : ℕ) (m w : List ℕ) → after (r .answer) (r .chip) m w ≡ onByte (chip .phase) byte number (state chip m w)) ⌝ }
+    ensures { λ r. ⌜ ((m w : List ℕ) (n : ℕ) → after (r .answer) (r .chip) m w n ≡ onByte (chip .phase) byte (state chip m w n)) ⌝ }
 {
     let phase = chip.phase;
     match phase {
         Phase::Idle => not_acknowledged(chip),
         Phase::AddressAwaited => on_address(byte, chip),
         Phase::Ignoring => not_acknowledged(chip),
-        Phase::ControlAwaited => Stepped {
+        Phase::ControlAwaited => Applied {
             answer: Answer::Acknowledged,
             chip: phases::byte::controlled(chip, byte),
         },
@@ -75,31 +75,31 @@ fn content(
     chip: Chip,
     memory: &mut [u8],
     writers: &mut [u64],
-) -> Stepped
-    ensures { λ r. ⌜ after (r .answer) (r .chip) (now (memory .exit)) (now (writers .exit))
-        ≡ contentOf rs phase byte number (state chip (now (memory .entry)) (now (writers .entry))) ⌝ }
+) -> Applied
+    ensures { λ r. ⌜ after (r .answer) (r .chip) (now (memory .exit)) (now (writers .exit)) number
+        ≡ contentOf rs phase byte (state chip (now (memory .entry)) (now (writers .entry)) number) ⌝ }
 {
     let registers = chip.registers;
     let moved = chip.in_phase(phase);
     if rs {
         let next = display::display_byte(registers, memory, writers, byte, number);
-        return Stepped {
+        return Applied {
             answer: Answer::Acknowledged,
             chip: moved.with_registers(next),
         };
     }
     let commanded = commands::command(registers, byte);
     let answer = commanded.answer;
-    Stepped {
+    Applied {
         answer: Answer::Command(answer),
         chip: moved.with_registers(commanded.registers),
     }
 }
 
 // Content is called from one place alone, so that the chip's record is not copied for it.
-pub fn on_byte(byte: u8, number: u64, chip: Chip, memory: &mut [u8], writers: &mut [u64]) -> Stepped
-    ensures { λ r. ⌜ after (r .answer) (r .chip) (now (memory .exit)) (now (writers .exit))
-        ≡ onByte (chip .phase) byte number (state chip (now (memory .entry)) (now (writers .entry))) ⌝ }
+pub fn on_byte(byte: u8, number: u64, chip: Chip, memory: &mut [u8], writers: &mut [u64]) -> Applied
+    ensures { λ r. ⌜ after (r .answer) (r .chip) (now (memory .exit)) (now (writers .exit)) number
+        ≡ onByte (chip .phase) byte (state chip (now (memory .entry)) (now (writers .entry)) number) ⌝ }
 {
     let phase = chip.phase;
     if phases::byte::awaits_content(phase) {

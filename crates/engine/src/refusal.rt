@@ -26,12 +26,12 @@ fn of_event(event: u16, count: u64) -> u8
 }
 
 // All four in their order.
-pub fn of_step(event: u16, chip: Chip, memory_len: usize, writers_len: usize) -> u8
-    ensures { λ r. ⌜ r ≡ entryFor chip «memory_len» «writers_len» then eventRefusal event (chip .count) ⌝ }
+pub fn of_step(event: u16, chip: Chip, count: u64, memory_len: usize, writers_len: usize) -> u8
+    ensures { λ r. ⌜ r ≡ entryFor chip «memory_len» «writers_len» then eventRefusal event count ⌝ }
 {
     let entry = at_entry(chip, memory_len, writers_len);
     if entry != 0 {
         return entry;
     }
-    of_event(event, chip.count)
+    of_event(event, count)
 }

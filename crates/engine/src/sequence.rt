@@ -1,4 +1,4 @@
-// Events in order, for a run and for a single step. It alone calls `accept`, so that the chip's record is not copied at each event.
+// Events in order, for a run and for a single step. It alone calls `apply` in a run, so that the chip's record is not copied at each event.
 ghost use mathlib.Core.Path.{_≡_};
 ghost use Rattle.registers.specs.State.{state};
 ghost use Rattle.commands.specs.declared.answer.CommandAnswer.the-variants.{Unknown, OutOfRange};
@@ -9,7 +9,7 @@ use commands::answer::CommandAnswer;
 use registers::Chip;
 
 // How many events were done, how many of them were unknown commands and commands out of range, the refusal that stopped them or 0, the answer to the
-// last event that was tried, and the chip after it.
+// last event that was tried, and the chip and the count after it.
 pub struct Performed {
     pub done: usize,
     pub unknown: usize,
@@ -17,24 +17,38 @@ pub struct Performed {
     pub refusal: u8,
     pub answer: Answer,
     pub chip: Chip,
+    pub count: u64,
 }
 
 // Events in order up to the first refused one, with no test at entry.
-fn go_through(chip: Chip, memory: &mut [u8], writers: &mut [u64], events: &[u16]) -> Performed
-    ensures { λ r. ⌜ outcome (r .done) (r .refusal) (state (r .chip) (now (memory .exit)) (now (writers .exit)))
-        ≡ runFrom 0 (now (events .entry)) (state chip (now (memory .entry)) (now (writers .entry))) ⌝ }
-    ensures { λ r. ⌜ r .unknown ≡ tally Unknown (now (events .entry)) (state chip (now (memory .entry)) (now (writers .entry))) ⌝ }
-    ensures { λ r. ⌜ r .«out_of_range» ≡ tally OutOfRange (now (events .entry)) (state chip (now (memory .entry)) (now (writers .entry))) ⌝ }
-    ensures { λ r. ⌜ r .answer ≡ answerFrom (now (events .entry)) (state chip (now (memory .entry)) (now (writers .entry))) Nothing ⌝ }
+fn go_through(
+    chip: Chip,
+    count: u64,
+    memory: &mut [u8],
+    writers: &mut [u64],
+    events: &[u16],
+) -> Performed
+    ensures { λ r. ⌜ outcome (r .done) (r .refusal) (state (r .chip) (now (memory .exit)) (now (writers .exit)) (r .count))
+        ≡ runFrom 0 (now (events .entry)) (state chip (now (memory .entry)) (now (writers .entry)) count) ⌝ }
+    ensures { λ r. ⌜ r .unknown ≡ tally Unknown (now (events .entry)) (state chip (now (memory .entry)) (now (writers .entry)) count) ⌝ }
+    ensures { λ r. ⌜ r .«out_of_range» ≡ tally OutOfRange (now (events .entry)) (state chip (now (memory .entry)) (now (writers .entry)) count) ⌝ }
+    ensures { λ r. ⌜ r .answer ≡ answerFrom (now (events .entry)) (state chip (now (memory .entry)) (now (writers .entry)) count) Nothing ⌝ }
 {
     let mut now_chip = chip;
+    let mut now_count = count;
     let mut answer = Answer::Nothing;
     let mut done = 0;
     let mut unknown = 0;
     let mut out_of_range = 0;
     while done < events.len() {
         let event = events[done];
-        let refused = crate::refusal::of_step(event, now_chip, memory.len(), writers.len());
+        let refused = crate::refusal::of_step(
+            event,
+            now_chip,
+            now_count,
+            memory.len(),
+            writers.len(),
+        );
         if refused != 0 {
             return Performed {
                 done,
@@ -43,11 +57,13 @@ fn go_through(chip: Chip, memory: &mut [u8], writers: &mut [u64], events: &[u16]
                 refusal: refused,
                 answer: Answer::Refused(refused),
                 chip: now_chip,
+                count: now_count,
             };
         }
-        let stepped = crate::apply::accept(event, now_chip, memory, writers);
-        now_chip = stepped.chip;
-        answer = stepped.answer;
+        now_count += 1;
+        let applied = crate::apply::apply(event, now_count, now_chip, memory, writers);
+        now_chip = applied.chip;
+        answer = applied.answer;
         done += 1;
         unknown += answer.counts_as(CommandAnswer::Unknown);
         out_of_range += answer.counts_as(CommandAnswer::OutOfRange);
@@ -59,16 +75,23 @@ fn go_through(chip: Chip, memory: &mut [u8], writers: &mut [u64], events: &[u16]
         refusal: 0,
         answer,
         chip: now_chip,
+        count: now_count,
     }
 }
 
 // The same, with 1 and 2 tested at entry, even with no events.
-pub fn perform(chip: Chip, memory: &mut [u8], writers: &mut [u64], events: &[u16]) -> Performed
-    ensures { λ r. ⌜ outcome (r .done) (r .refusal) (state (r .chip) (now (memory .exit)) (now (writers .exit)))
-        ≡ runOf (now (events .entry)) (state chip (now (memory .entry)) (now (writers .entry))) ⌝ }
-    ensures { λ r. ⌜ r .unknown ≡ tally Unknown (now (events .entry)) (state chip (now (memory .entry)) (now (writers .entry))) ⌝ }
-    ensures { λ r. ⌜ r .«out_of_range» ≡ tally OutOfRange (now (events .entry)) (state chip (now (memory .entry)) (now (writers .entry))) ⌝ }
-    ensures { λ r. ⌜ r .answer ≡ lastAnswer (now (events .entry)) (state chip (now (memory .entry)) (now (writers .entry))) ⌝ }
+pub fn perform(
+    chip: Chip,
+    count: u64,
+    memory: &mut [u8],
+    writers: &mut [u64],
+    events: &[u16],
+) -> Performed
+    ensures { λ r. ⌜ outcome (r .done) (r .refusal) (state (r .chip) (now (memory .exit)) (now (writers .exit)) (r .count))
+        ≡ runOf (now (events .entry)) (state chip (now (memory .entry)) (now (writers .entry)) count) ⌝ }
+    ensures { λ r. ⌜ r .unknown ≡ tally Unknown (now (events .entry)) (state chip (now (memory .entry)) (now (writers .entry)) count) ⌝ }
+    ensures { λ r. ⌜ r .«out_of_range» ≡ tally OutOfRange (now (events .entry)) (state chip (now (memory .entry)) (now (writers .entry)) count) ⌝ }
+    ensures { λ r. ⌜ r .answer ≡ lastAnswer (now (events .entry)) (state chip (now (memory .entry)) (now (writers .entry)) count) ⌝ }
 {
     let entry = crate::refusal::at_entry(chip, memory.len(), writers.len());
     if entry != 0 {
@@ -79,7 +102,8 @@ pub fn perform(chip: Chip, memory: &mut [u8], writers: &mut [u64], events: &[u16
             refusal: entry,
             answer: Answer::Refused(entry),
             chip,
+            count,
         };
     }
-    go_through(chip, memory, writers, events)
+    go_through(chip, count, memory, writers, events)
 }

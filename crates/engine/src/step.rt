@@ -5,20 +5,25 @@ ghost use Rattle.engine.specs.Step.{after, stepOf};
 use crate::answer::Answer;
 use registers::Chip;
 
-// The answer to an event, and the chip after it.
+// The answer to an event, and the chip and the count after it.
 pub struct Stepped {
     pub answer: Answer,
     pub chip: Chip,
+    pub count: u64,
 }
 
-// One event: refused with the same record and memories, or accepted.
-pub fn step(event: u16, chip: Chip, memory: &mut [u8], writers: &mut [u64]) -> Stepped
-    ensures { λ r. ⌜ after (r .answer) (r .chip) (now (memory .exit)) (now (writers .exit))
-        ≡ stepOf event (state chip (now (memory .entry)) (now (writers .entry))) ⌝ }
+// One event: refused with the same record, memories and count, or accepted.
+pub fn step(event: u16, chip: Chip, count: u64, memory: &mut [u8], writers: &mut [u64]) -> Stepped
+    ensures { λ r. ⌜ after (r .answer) (r .chip) (now (memory .exit)) (now (writers .exit)) (r .count)
+        ≡ stepOf event (state chip (now (memory .entry)) (now (writers .entry)) count) ⌝ }
 {
     let events = [event];
-    let performed = crate::sequence::perform(chip, memory, writers, &events);
+    let performed = crate::sequence::perform(chip, count, memory, writers, &events);
     let answer = performed.answer;
     let chip = performed.chip;
-    Stepped { answer, chip }
+    Stepped {
+        answer,
+        chip,
+        count: performed.count,
+    }
 }

@@ -43,13 +43,11 @@ pub fn phase_after_last_read(phase: Phase) -> Phase
     }
 }
 
-// Reset values but for count and pins; the lent memories are not touched.
+// Reset values but for the pins; the lent memories and the count are not touched.
 pub fn pulsed(chip: Chip) -> Chip
     ensures { λ r. ⌜ r ≡ pulsed chip ⌝ }
 {
-    let mut next = Chip::reset(chip.pins);
-    next.count = chip.count;
-    next
+    Chip::reset(chip.pins)
 }
 
 // A reading is taken where SM = 1 and PD = 0.

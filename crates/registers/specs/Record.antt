@@ -111,29 +111,25 @@ phaseRs ReadEnded = false
 
 abbrev pub resetChip : ℕ → Chip
 resetChip pins =
-    record { registers = resetRegisters; pins = pins; status = 0; «last_rs» = false; phase = Idle; count = 0 }
+    record { registers = resetRegisters; pins = pins; status = 0; «last_rs» = false; phase = Idle }
 
 -- ---- the same record but for one thing: every change of a chip is made of these
 
 abbrev pub withRegisters : Chip → Registers → Chip
 withRegisters c r =
-    record { registers = r; pins = c .pins; status = c .status; «last_rs» = c .«last_rs»; phase = c .phase; count = c .count }
+    record { registers = r; pins = c .pins; status = c .status; «last_rs» = c .«last_rs»; phase = c .phase }
 
 abbrev pub withStatus : Chip → ℕ → Chip
 withStatus c n =
-    record { registers = c .registers; pins = c .pins; status = n; «last_rs» = c .«last_rs»; phase = c .phase; count = c .count }
+    record { registers = c .registers; pins = c .pins; status = n; «last_rs» = c .«last_rs»; phase = c .phase }
 
 abbrev pub withLastRs : Chip → Bool → Chip
 withLastRs c rs =
-    record { registers = c .registers; pins = c .pins; status = c .status; «last_rs» = rs; phase = c .phase; count = c .count }
+    record { registers = c .registers; pins = c .pins; status = c .status; «last_rs» = rs; phase = c .phase }
 
 abbrev pub inPhase : Chip → Phase → Chip
 inPhase c p =
-    record { registers = c .registers; pins = c .pins; status = c .status; «last_rs» = c .«last_rs»; phase = p; count = c .count }
-
-abbrev pub withCount : Chip → ℕ → Chip
-withCount c n =
-    record { registers = c .registers; pins = c .pins; status = c .status; «last_rs» = c .«last_rs»; phase = c .phase; count = n }
+    record { registers = c .registers; pins = c .pins; status = c .status; «last_rs» = c .«last_rs»; phase = p }
 
 -- ---- what is allowed
 

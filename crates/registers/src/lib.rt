@@ -55,14 +55,13 @@ pub enum Phase {
     ReadEnded,
 }
 
-// The chip's record: the registers, the pins SA, the status byte TR, the last RS, the bus phase and the event count.
+// The chip's record: the registers, the pins SA, the status byte TR, the last RS and the bus phase. The event count is the bus's and stands beside it.
 pub struct Chip {
     pub registers: Registers,
     pub pins: u8,
     pub status: u8,
     pub last_rs: bool,
     pub phase: Phase,
-    pub count: u64,
 }
 
 impl Registers {
@@ -121,7 +120,7 @@ impl Phase {
 }
 
 impl Chip {
-    // The record after power-on reset: no event yet.
+    // The record after power-on reset.
     pub fn reset(pins: u8) -> Self
         ensures { λ r. ⌜ r ≡ resetChip pins ⌝ }
     {
@@ -131,7 +130,6 @@ impl Chip {
             status: 0,
             last_rs: false,
             phase: Phase::Idle,
-            count: 0,
         }
     }
 
@@ -154,7 +152,6 @@ impl Chip {
             status: self.status,
             last_rs: self.last_rs,
             phase,
-            count: self.count,
         }
     }
 

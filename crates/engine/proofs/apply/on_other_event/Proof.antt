@@ -78,38 +78,38 @@ without-answer-requires-6 : tie.Need-without-answer-requires-6
 without-answer-requires-6 c κs = search needs
 
 returns : tie.Need-returns
-returns c number m w = no-byte-known _ _ _ _ (c .before .enum-told .given .1) refl (c .before .before .before .pre)
+returns c m w n = no-byte-known _ _ _ _ (c .before .enum-told .given .1) refl (c .before .before .before .pre)
 
 returns-2 : tie.Need-returns-2
 unfolding applied
-returns-2 c number m w = in-known-event _ _ _ _ _ _ _ _ _ (c .before .before .enum-told2 .given .1) (c .without-answer2 .ensures) (c .before .in-phase .ensures) refl
+returns-2 c m w n = in-known-event _ _ _ _ _ _ _ _ (c .before .before .enum-told2 .given .1) (c .without-answer2 .ensures) (c .before .in-phase .ensures) refl
 
 returns-3 : tie.Need-returns-3
 unfolding applied
-returns-3 c number m w = in-known-event _ _ _ _ _ _ _ _ _ (c .before .before .enum-told3 .given .1) (c .without-answer3 .ensures) (c .before .in-phase2 .ensures) refl
+returns-3 c m w n = in-known-event _ _ _ _ _ _ _ _ (c .before .before .enum-told3 .given .1) (c .without-answer3 .ensures) (c .before .in-phase2 .ensures) refl
 
 returns-4 : tie.Need-returns-4
 unfolding applied
-returns-4 c number m w = in-known-event _ _ _ _ _ _ _ _ _ (c .before .before .enum-told4 .given .1) (c .with-byte-read .ensures) refl (simp (c .before .read-byte .ensures))
+returns-4 c m w n = in-known-event _ _ _ _ _ _ _ _ (c .before .before .enum-told4 .given .1) (c .with-byte-read .ensures) refl (simp (c .before .read-byte .ensures))
 
 returns-5 : tie.Need-returns-5
 unfolding applied
-returns-5 c number m w =
+returns-5 c m w n =
     let read = c .before .before .before in
-    in-known-event _ _ _ _ _ _ _ _ _ (read .before .enum-told5 .given .1) (c .with-byte-read2 .ensures) (c .before .in-phase3 .ensures)
+    in-known-event _ _ _ _ _ _ _ _ (read .before .enum-told5 .given .1) (c .with-byte-read2 .ensures) (c .before .in-phase3 .ensures)
     (simp (read .read-byte2 .ensures, c .before .before .phase-after-last-read .ensures))
 
 returns-6 : tie.Need-returns-6
 unfolding applied
-returns-6 c number m w = in-known-event _ _ _ _ _ _ _ _ _ (c .before .before .enum-told6 .given .1) (c .without-answer4 .ensures) (c .before .pulsed .ensures) refl
+returns-6 c m w n = in-known-event _ _ _ _ _ _ _ _ (c .before .before .enum-told6 .given .1) (c .without-answer4 .ensures) (c .before .pulsed .ensures) refl
 
 returns-7 : tie.Need-returns-7
 unfolding applied
-returns-7 c number m w = in-known-event _ _ _ _ _ _ _ _ _ (c .before .before .before .event .given .1) (c .without-answer5 .ensures) (c .before .sensed .ensures) refl
+returns-7 c m w n = in-known-event _ _ _ _ _ _ _ _ (c .before .before .before .event .given .1) (c .without-answer5 .ensures) (c .before .sensed .ensures) refl
 
 returns-8 : tie.Need-returns-8
 unfolding applied
-returns-8 c number m w = in-known-event _ _ _ _ _ _ _ _ _ (c .before .enum-told7 .given .1) (c .without-answer6 .ensures) refl refl
+returns-8 c m w n = in-known-event _ _ _ _ _ _ _ _ (c .before .enum-told7 .given .1) (c .without-answer6 .ensures) refl refl
 
 pub on-other-event-spec : {M : Type 1} → statement M
 on-other-event-spec =

@@ -21,7 +21,7 @@ same-length-2 c = search needs
 returns : tie.Need-returns
 returns c =
     let stored = c .before .before .before .before .before .display-byte .ensures in
-    display-content _ _ _ _ _ _ _ _ _ _ (c .before .before .before .before .before .before .before .before .if1 .taken)
+    display-content _ _ _ _ _ _ _ _ _ (c .before .before .before .before .before .before .before .before .if1 .taken)
     (c .before .before .before .before .before .before .before .before .before .in-phase .ensures) (stored .0) (stored .1 .0) (stored .1 .1) (c .with-registers .ensures)
 
 command-requires : tie.Need-command-requires
@@ -33,7 +33,7 @@ with-registers-requires-2 c κs = search needs
 returns-2 : tie.Need-returns-2
 returns-2 c =
     let commanded = c .before in
-    command-content _ _ _ _ _ _ _ _ _ (commanded .before .if1 .left) (commanded .before .before .in-phase .ensures) (commanded .command .ensures .0)
+    command-content _ _ _ _ _ _ _ _ (commanded .before .if1 .left) (commanded .before .before .in-phase .ensures) (commanded .command .ensures .0)
     (commanded .command .ensures .1) (c .with-registers2 .ensures)
 
 pub content-spec : {M : Type 1} → statement M

@@ -28,7 +28,7 @@ returns c =
     let next = taken .before .before .before in
     let rs = next .before in
     let awaits = rs .before .before in
-    content-taken (awaits .before .before .before .args .chip .phase) _ _ _ _ _ _ _ (awaits .awaits-content .ensures) (rs .before .if1 .taken)
+    content-taken (awaits .before .before .before .args .chip .phase) _ _ _ _ _ _ (awaits .awaits-content .ensures) (rs .before .if1 .taken)
     (rs .rs .ensures) (next .phase-after-content .ensures) (taken .content .ensures)
 
 on-plain-byte-requires : tie.Need-on-plain-byte-requires

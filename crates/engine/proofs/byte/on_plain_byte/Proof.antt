@@ -59,31 +59,31 @@ not-acknowledged-requires-6 : tie.Need-not-acknowledged-requires-6
 not-acknowledged-requires-6 c κs = search needs
 
 returns : tie.Need-returns
-returns c number m w = in-known-phase _ _ _ _ _ _ (c .before .enum-told .given .1) (simp (c .not-acknowledged .ensures .0, c .not-acknowledged .ensures .1))
+returns c m w n = in-known-phase _ _ _ _ _ (c .before .enum-told .given .1) (simp (c .not-acknowledged .ensures .0, c .not-acknowledged .ensures .1))
 
 returns-2 : tie.Need-returns-2
-returns-2 c number m w = in-known-phase _ _ _ _ _ _ (c .before .enum-told2 .given .1) (simp (c .on-address .ensures .0, c .on-address .ensures .1))
+returns-2 c m w n = in-known-phase _ _ _ _ _ (c .before .enum-told2 .given .1) (simp (c .on-address .ensures .0, c .on-address .ensures .1))
 
 returns-3 : tie.Need-returns-3
-returns-3 c number m w = in-known-phase _ _ _ _ _ _ (c .before .enum-told3 .given .1) (simp (c .not-acknowledged2 .ensures .0, c .not-acknowledged2 .ensures .1))
+returns-3 c m w n = in-known-phase _ _ _ _ _ (c .before .enum-told3 .given .1) (simp (c .not-acknowledged2 .ensures .0, c .not-acknowledged2 .ensures .1))
 
 returns-4 : tie.Need-returns-4
-returns-4 c number m w = in-known-phase _ _ _ _ _ _ (c .before .enum-told4 .given .1) (simp (c .controlled .ensures))
+returns-4 c m w n = in-known-phase _ _ _ _ _ (c .before .enum-told4 .given .1) (simp (c .controlled .ensures))
 
 returns-5 : tie.Need-returns-5
-returns-5 c number m w = no-content _ _ _ _ (c .before .enum-told5 .given .1) refl (c .before .before .before .pre)
+returns-5 c m w n = no-content _ _ _ _ (c .before .enum-told5 .given .1) refl (c .before .before .before .pre)
 
 returns-6 : tie.Need-returns-6
-returns-6 c number m w = no-content _ _ _ _ (c .before .enum-told6 .given .1) refl (c .before .before .before .pre)
+returns-6 c m w n = no-content _ _ _ _ (c .before .enum-told6 .given .1) refl (c .before .before .before .pre)
 
 returns-7 : tie.Need-returns-7
-returns-7 c number m w =
-    in-known-phase _ _ _ _ _ _ (c .before .before .enum-told7 .given .1)
+returns-7 c m w n =
+    in-known-phase _ _ _ _ _ (c .before .before .enum-told7 .given .1)
     (simp (c .not-acknowledged5 .ensures .0, c .not-acknowledged5 .ensures .1, c .before .in-phase .ensures))
 
 returns-8 : tie.Need-returns-8
-returns-8 c number m w =
-    in-known-phase _ _ _ _ _ _ (c .before .before .enum-told8 .given .1)
+returns-8 c m w n =
+    in-known-phase _ _ _ _ _ (c .before .before .enum-told8 .given .1)
     (simp (c .not-acknowledged6 .ensures .0, c .not-acknowledged6 .ensures .1, c .before .in-phase2 .ensures))
 
 pub on-plain-byte-spec : {M : Type 1} → statement M

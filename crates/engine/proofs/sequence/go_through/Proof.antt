@@ -1,34 +1,35 @@
 use Rattle.engine.proofs.CodeWays.{run-stops, run-goes-on, run-ends, answer-stops, answer-goes-on, answer-ends}
 use Rattle.engine.proofs.CodeWays.{Tallied, tally-begins, tally-stops, tally-goes-on, tally-ends}
+use Rattle.engine.proofs.Refusals.{accepts}
 use Rattle.engine.proofs.Tallies.{counted-once}
 use Rattle.commands.specs.declared.answer.CommandAnswer.the-variants.{Unknown, OutOfRange}
 use Rattle.engine.specs.Run.{runFrom, tally, answerFrom}
-use Rattle.engine.specs.Step.{refusalOf, entryRefusal}
+use Rattle.engine.specs.Step.{refusalOf, entryRefusal, accepted}
 use Rattle.registers.specs.State.{state}
 use lib.ListN.{length, drop}
 use native.Mathlib.Omega.{arith}
 use borrow.Author.Needs.{needs}
-use Prim.Native.Nat.{_-_, _≤_}
+use Prim.Native.Nat.{_-_, _^_, _≤_, _<_}
 use mathlib.Core.Path.{_≡_, refl, sym, _∙_}
 use Rattle.engine.proofs.sequence.go_through.Statement.{statement}
 use Rattle.engine.proofs.sequence.go_through.Tie as tie
 
 abbrev Inv-loop : tie.InvT-loop
-Inv-loop memory₀ writers₀ events now-chip₀ answer₀ done₀ unknown₀ out-of-range₀ memory writers now-chip answer done unknown out-of-range =
-    (done ≤ length events)
+Inv-loop count memory₀ writers₀ events now-chip₀ now-count₀ answer₀ done₀ unknown₀ out-of-range₀ memory writers now-chip now-count answer done unknown out-of-range =
+    ((done ≤ length events) × (now-count < 2 ^ 64))
     × (length memory ≡ length memory₀)
     × (length writers ≡ length writers₀)
-    × (runFrom done (drop done events) (state now-chip memory writers) ≡ runFrom 0 events (state now-chip₀ memory₀ writers₀))
-    × (answerFrom (drop done events) (state now-chip memory writers) answer ≡ answerFrom events (state now-chip₀ memory₀ writers₀) answer₀)
-    × Tallied Unknown (tally Unknown events (state now-chip₀ memory₀ writers₀)) events done (state now-chip memory writers) unknown
-    × Tallied OutOfRange (tally OutOfRange events (state now-chip₀ memory₀ writers₀)) events done (state now-chip memory writers) out-of-range
+    × (runFrom done (drop done events) (state now-chip memory writers now-count) ≡ runFrom 0 events (state now-chip₀ memory₀ writers₀ now-count₀))
+    × (answerFrom (drop done events) (state now-chip memory writers now-count) answer ≡ answerFrom events (state now-chip₀ memory₀ writers₀ now-count₀) answer₀)
+    × Tallied Unknown (tally Unknown events (state now-chip₀ memory₀ writers₀ now-count₀)) events done (state now-chip memory writers now-count) unknown
+    × Tallied OutOfRange (tally OutOfRange events (state now-chip₀ memory₀ writers₀ now-count₀)) events done (state now-chip memory writers now-count) out-of-range
 
 abbrev μ-loop : tie.MeasureT-loop
-μ-loop memory₀ writers₀ events now-chip₀ answer₀ done₀ unknown₀ out-of-range₀ memory writers now-chip answer done unknown out-of-range =
+μ-loop count memory₀ writers₀ events now-chip₀ now-count₀ answer₀ done₀ unknown₀ out-of-range₀ memory writers now-chip now-count answer done unknown out-of-range =
     length events - done
 
 loop-holds : tie.Need-loop-holds Inv-loop μ-loop
-loop-holds c = (search needs, refl, refl, refl, refl, tally-begins _ _ _, tally-begins _ _ _)
+loop-holds c = ((search needs, search needs), refl, refl, refl, refl, tally-begins _ _ _, tally-begins _ _ _)
 
 mul-event : tie.Need-mul-event Inv-loop μ-loop
 mul-event c = search needs
@@ -61,9 +62,15 @@ returns c =
       ),
     )
 
-accept-requires : tie.Need-accept-requires Inv-loop μ-loop
+add-now-count : tie.Need-add-now-count Inv-loop μ-loop
 unfolding refusalOf entryRefusal
-accept-requires c κs = sym (c .before .before .before .of-step .ensures) ∙ c .before .before .if1 .left
+add-now-count c =
+    let here = c .before .before .before .before .loop in
+    let before = state (here .now-chip) (here .memory) (here .writers) (here .now-count) in
+    omega (arith, accepts _ before (sym (c .before .of-step .ensures) ∙ c .if1 .left) .room)
+
+apply-requires : tie.Need-apply-requires Inv-loop μ-loop
+apply-requires c κs = search needs
 
 add-done : tie.Need-add-done Inv-loop μ-loop
 add-done c =
@@ -77,7 +84,7 @@ add-unknown : tie.Need-add-unknown Inv-loop μ-loop
 add-unknown c =
     let loop = c .before .before .before .before .before .before .before .before .before .before .before .before .before in
     let inside = c .before .before .before .before .before .before .before .before .before .before .before .before .loop-test .taken in
-    let once = counted-once Unknown _ (c .before .before .before .before .before .before .accept .result .answer) (c .counts-as .ensures) in
+    let once = counted-once Unknown _ (c .before .before .before .before .before .before .apply .result .answer) (c .counts-as .ensures) in
     omega (arith, loop .loop .inv .5 .at-most, inside, once, loop .before .before .before .before .good .1)
 
 counts-as-requires-2 : tie.Need-counts-as-requires-2 Inv-loop μ-loop
@@ -87,29 +94,31 @@ add-out-of-range : tie.Need-add-out-of-range Inv-loop μ-loop
 add-out-of-range c =
     let loop = c .before .before .before .before .before .before .before .before .before .before .before .before .before .before in
     let inside = c .before .before .before .before .before .before .before .before .before .before .before .before .before .loop-test .taken in
-    let once = counted-once OutOfRange _ (c .before .before .before .before .before .before .before .accept .result .answer) (c .counts-as2 .ensures) in
+    let once = counted-once OutOfRange _ (c .before .before .before .before .before .before .before .apply .result .answer) (c .counts-as2 .ensures) in
     omega (arith, loop .loop .inv .6 .at-most, inside, once, loop .before .before .before .before .good .1)
 
 loop-less : tie.Need-loop-less Inv-loop μ-loop
 loop-less c = search needs
 
 loop-again : tie.Need-loop-again Inv-loop μ-loop
-unfolding refusalOf entryRefusal
+unfolding refusalOf entryRefusal accepted
 loop-again c =
     let unknown = c .before in
-    let accepts = unknown .before .before .before .before .before .before in
-    let none = accepts .before .before .before in
+    let applied = unknown .before .before .before .before .before .before in
+    let none = applied .before .before .before in
     let test = none .before .before .before in
-    let at-head = test .before .loop .inv in
+    let here = test .before .loop in
+    let at-head = here .inv in
     let inside = test .loop-test .taken in
-    let refused = none .before .of-step .ensures in (
-      omega (arith, inside),
-      accepts .accept .kept .1 .1 .0 ∙ at-head .1,
-      accepts .accept .kept .1 .1 .1 .0 ∙ at-head .2,
-      sym (run-goes-on _ _ inside _ _ _ refused (none .if1 .left) (accepts .accept .ensures)) ∙ at-head .3,
-      sym (answer-goes-on _ _ inside _ _ _ _ refused (none .if1 .left) (accepts .accept .ensures)) ∙ at-head .4,
-      tally-goes-on _ _ inside _ _ _ _ (at-head .5) _ _ _ refused (none .if1 .left) (accepts .accept .ensures) (unknown .counts-as .ensures),
-      tally-goes-on _ _ inside _ _ _ _ (at-head .6) _ _ _ refused (none .if1 .left) (accepts .accept .ensures) (c .counts-as2 .ensures),
+    let refused = none .before .of-step .ensures in
+    let before = state (here .now-chip) (here .memory) (here .writers) (here .now-count) in (
+      (omega (arith, inside), omega (arith, accepts _ before (sym refused ∙ none .if1 .left) .room)),
+      applied .apply .kept .1 .1 .1 .0 ∙ at-head .1,
+      applied .apply .kept .1 .1 .1 .1 .0 ∙ at-head .2,
+      sym (run-goes-on _ _ inside _ _ _ refused (none .if1 .left) (applied .apply .ensures)) ∙ at-head .3,
+      sym (answer-goes-on _ _ inside _ _ _ _ refused (none .if1 .left) (applied .apply .ensures)) ∙ at-head .4,
+      tally-goes-on _ _ inside _ _ _ _ (at-head .5) _ _ _ refused (none .if1 .left) (applied .apply .ensures) (unknown .counts-as .ensures),
+      tally-goes-on _ _ inside _ _ _ _ (at-head .6) _ _ _ refused (none .if1 .left) (applied .apply .ensures) (c .counts-as2 .ensures),
     )
 
 same-length-3 : tie.Need-same-length-3 Inv-loop μ-loop
@@ -142,7 +151,8 @@ go-through-spec =
     same-length
     same-length-2
     returns
-    accept-requires
+    add-now-count
+    apply-requires
     add-done
     counts-as-requires
     add-unknown
