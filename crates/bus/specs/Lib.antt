@@ -1,0 +1,3 @@
+pub mod Bus
+pub mod Refusals
+pub mod Step

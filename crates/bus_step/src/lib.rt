@@ -1,0 +1,139 @@
+// Four chips on one bus: an event reaches them all, and one count numbers the events.
+ghost use mathlib.Core.Path.{_≡_};
+ghost use mathlib.Core.List.{map};
+ghost use Rattle.bus.specs.Bus.{bus};
+ghost use Rattle.bus.specs.Step.{deviceAfter, answerOf, busAfter, busStepOf};
+ghost use Rattle.bus_step.specs.Four.{four};
+use engine::answer::Answer;
+use registers::Chip;
+
+mod answer;
+mod device;
+mod refusal;
+mod sharing;
+
+// The four records, in the order of their memories.
+pub struct Chips {
+    pub chip0: Chip,
+    pub chip1: Chip,
+    pub chip2: Chip,
+    pub chip3: Chip,
+}
+
+// What the bus answers, and the chips after the event.
+struct Delivered {
+    pub answer: Answer,
+    pub chips: Chips,
+}
+
+// The answer to an event, and the chips and the count after it.
+pub struct BusStepped {
+    pub answer: Answer,
+    pub chips: Chips,
+    pub count: u64,
+}
+
+// What an accepted event does to the four; the number is its own.
+fn deliver(
+    event: u16,
+    pins: u64,
+    number: u64,
+    chips: Chips,
+    memory0: &mut [u8],
+    writers0: &mut [u64],
+    memory1: &mut [u8],
+    writers1: &mut [u64],
+    memory2: &mut [u8],
+    writers2: &mut [u64],
+    memory3: &mut [u8],
+    writers3: &mut [u64],
+) -> Delivered
+    ensures { λ r. ⌜ four (r .chips) (now (memory0 .exit)) (now (writers0 .exit)) (now (memory1 .exit)) (now (writers1 .exit))
+        (now (memory2 .exit)) (now (writers2 .exit)) (now (memory3 .exit)) (now (writers3 .exit))
+        ≡ map (deviceAfter event pins number) (four chips (now (memory0 .entry)) (now (writers0 .entry)) (now (memory1 .entry)) (now (writers1 .entry))
+        (now (memory2 .entry)) (now (writers2 .entry)) (now (memory3 .entry)) (now (writers3 .entry))) ⌝ }
+    ensures { λ r. ⌜ r .answer
+        ≡ answerOf event pins number (four chips (now (memory0 .entry)) (now (writers0 .entry)) (now (memory1 .entry)) (now (writers1 .entry))
+        (now (memory2 .entry)) (now (writers2 .entry)) (now (memory3 .entry)) (now (writers3 .entry))) ⌝ }
+{
+    let heard0 = device::hear(event, pins, number, chips.chip0, memory0, writers0);
+    let heard1 = device::hear(event, pins, number, chips.chip1, memory1, writers1);
+    let heard2 = device::hear(event, pins, number, chips.chip2, memory2, writers2);
+    let heard3 = device::hear(event, pins, number, chips.chip3, memory3, writers3);
+    let answer0 = heard0.answer;
+    let answer1 = heard1.answer;
+    let answer2 = heard2.answer;
+    let answer3 = heard3.answer;
+    let answer = answer::or_else(answer3, answer::unanswered(event));
+    let answer = answer::or_else(answer2, answer);
+    let answer = answer::or_else(answer1, answer);
+    let chip0 = heard0.chip;
+    let chip1 = heard1.chip;
+    let chip2 = heard2.chip;
+    let chip3 = heard3.chip;
+    Delivered {
+        answer: answer::or_else(answer0, answer),
+        chips: Chips {
+            chip0,
+            chip1,
+            chip2,
+            chip3,
+        },
+    }
+}
+
+// One event: refused with the same records, memories and count, or accepted. The pins are those that a sensor reading names.
+pub fn step(
+    event: u16,
+    pins: u64,
+    chips: Chips,
+    count: u64,
+    memory0: &mut [u8],
+    writers0: &mut [u64],
+    memory1: &mut [u8],
+    writers1: &mut [u64],
+    memory2: &mut [u8],
+    writers2: &mut [u64],
+    memory3: &mut [u8],
+    writers3: &mut [u64],
+) -> BusStepped
+    ensures { λ r. ⌜ busAfter (r .answer) (four (r .chips) (now (memory0 .exit)) (now (writers0 .exit)) (now (memory1 .exit)) (now (writers1 .exit))
+        (now (memory2 .exit)) (now (writers2 .exit)) (now (memory3 .exit)) (now (writers3 .exit))) (r .count)
+        ≡ busStepOf event pins (bus (four chips (now (memory0 .entry)) (now (writers0 .entry)) (now (memory1 .entry)) (now (writers1 .entry))
+        (now (memory2 .entry)) (now (writers2 .entry)) (now (memory3 .entry)) (now (writers3 .entry))) count) ⌝ }
+{
+    let long = refusal::is_long(memory0.len(), writers0.len())
+        & refusal::is_long(memory1.len(), writers1.len())
+        & refusal::is_long(memory2.len(), writers2.len())
+        & refusal::is_long(memory3.len(), writers3.len());
+    let refused = refusal::of_step(event, pins, chips, count, long);
+    if refused != 0 {
+        return BusStepped {
+            answer: Answer::Refused(refused),
+            chips,
+            count,
+        };
+    }
+    let number = count + 1;
+    let delivered = deliver(
+        event,
+        pins,
+        number,
+        chips,
+        memory0,
+        writers0,
+        memory1,
+        writers1,
+        memory2,
+        writers2,
+        memory3,
+        writers3,
+    );
+    let answer = delivered.answer;
+    let chips = delivered.chips;
+    BusStepped {
+        answer,
+        chips,
+        count: number,
+    }
+}
