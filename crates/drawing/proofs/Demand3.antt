@@ -56,7 +56,7 @@ list-plays (l ∷ ls) fit q m pins k s shows =
 
 -- from any state that 1 and 2 let pass, with room in the count
 pub demand-3 :
-    (ls : List Line) → AllFit ls → (s : State) → Fit s → s .chip .count + length (stream (s .chip .pins) ls (blank (s .chip .registers))) < 2 ^ 64
+    (ls : List Line) → AllFit ls → (s : State) → Fit s → s .count + length (stream (s .chip .pins) ls (blank (s .chip .registers))) < 2 ^ 64
     → Demand3 ls (stream (s .chip .pins) ls (blank (s .chip .registers))) s
 demand-3 ls fits s fit room =
     let q = blank (s .chip .registers) in
@@ -85,7 +85,7 @@ demand-3 ls fits s fit room =
 -- demand 3 of every text whose lines are all accepted
 pub text-demand-3 :
     (text : List ℕ) (ls : List Line) → readingOf text ≡ lines ls → (s : State) → Fit s
-    → s .chip .count + length (stream (s .chip .pins) ls (blank (s .chip .registers))) < 2 ^ 64
+    → s .count + length (stream (s .chip .pins) ls (blank (s .chip .registers))) < 2 ^ 64
     → Demand3 ls (stream (s .chip .pins) ls (blank (s .chip .registers))) s
 unfolding readingOf
 text-demand-3 text ls e s fit room = demand-3 ls (all-fit ls (reading-accepted 1 text ls e .within)) s fit room

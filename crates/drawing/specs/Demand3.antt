@@ -19,15 +19,15 @@ pub record Demand3 (ls : List Line) (es : List ℕ) (s : State) : Type 0 where
   pub all-good : (i : ℕ) → i < length es → Good (getD es i 0) (before es i s)
   -- the display memory, and every register but H, X and Y, are those of the list's plain reading
   pub same-picture : pictureOf (played es s) ≡ plainReading ls (pictureOf s)
-  -- the run over the same events ends in the same record and memories, and does them all
+  -- the run over the same events ends in the same record, memories and count, and does them all
   pub same-run : runOf es s ≡ outcome (length es) 0 (played es s)
   -- and counts no unknown command, and none out of range
   pub none-unknown : tally Unknown es s ≡ 0
   pub none-out-of-range : tally OutOfRange es s ≡ 0
 
 -- the text has a plain reading, and the output's first n events play it on the record it was compiled for: with any two memories that 1 lets
--- pass, the record being one that 2 lets pass, and with room in the count
+-- pass, the record being one that 2 lets pass, and from any count that has room for them
 pub record Draws (c : Chip) (text : List ℕ) (n : ℕ) (out : List ℕ) : Type 0 where
   pub list : List Line
   pub reads : readingOf text ≡ lines list
-  pub plays : (m w : List ℕ) → Fit (state c m w) → c .count + n < 2 ^ 64 → Demand3 list (take n out) (state c m w)
+  pub plays : (m w : List ℕ) (count : ℕ) → Fit (state c m w count) → count + n < 2 ^ 64 → Demand3 list (take n out) (state c m w count)
