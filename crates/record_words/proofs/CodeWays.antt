@@ -2,11 +2,11 @@
 use mathlib.Core.Path.{_≡_, refl, sym, ap, _∙_, subst}
 use mathlib.Core.Bool.{Bool, true, false, _&&_}
 use mathlib.Core.List.{List, [], _∷_, _++_, append-assoc, append-nil}
-use Prim.Native.Nat.{ℕ, suc, _+_, _-_, _^_, _≤_, _<_}
+use Prim.Native.Nat.{ℕ, suc, _+_, _<_}
 use native.Mathlib.Nat.{le-of-lt}
 use native.Mathlib.Numerals.{add-one}
 use native.Mathlib.Omega.{arith}
-use borrow.Author.Tests.{eq-eqb, ne-eqb, le-leb}
+use borrow.Author.Tests.{eq-eqb, ne-eqb}
 use lib.Dec.{leb}
 use lib.ListN.{length, getD, set, take, drop, length-drop, List·getD-append}
 use lib.Seq.{drop-cons, take-suc, set-at, length-take-le}
@@ -14,7 +14,6 @@ use Rattle.registers.specs.declared.Chip.{Chip}
 use Rattle.registers.specs.declared.Registers.{Registers}
 use Rattle.registers.specs.declared.Phase.{Phase}
 use Rattle.registers.specs.Record.{phaseRs, limits, within, values, ofValues}
-use Rattle.registers.proofs.Below.{and-true}
 use Rattle.record_words.specs.declared.Read.the-variants.{Record, NoRecord}
 use Rattle.record_words.specs.Words.{wordLimits, restLimits, recordLength, standsFor, chipOf, wordsOf, phaseOf, phaseNumber, bit, isSet, readOf, stored}
 use Rattle.record_words.proofs.Stands.{in-words, spelled}
@@ -41,18 +40,17 @@ pub at-rest :
     → within t (drop 29 ws) restLimits ≡ within true ws wordLimits
 at-rest t ws i e h = rw e at h
 
--- the words behind the registers; every count passes
+-- the words behind the registers
 pub rest-within :
-    (t : Bool) (ws : List ℕ) → length ws ≡ recordLength → getD ws 34 0 ≤ 2 ^ 64 - 1
+    (t : Bool) (ws : List ℕ) → length ws ≡ recordLength
     → within t (drop 29 ws) restLimits
     ≡ ((((t && leb (getD ws 29 0) 3) && leb (getD ws 30 0) 255) && leb (getD ws 31 0) 1) && leb (getD ws 32 0) 7) && leb (getD ws 33 0) 1
 rest-within t =
     in-words
     (λ (l : List ℕ).
-    getD l 34 0 ≤ 2 ^ 64 - 1
-    → within t (drop 29 l) restLimits
+    within t (drop 29 l) restLimits
     ≡ ((((t && leb (getD l 29 0) 3) && leb (getD l 30 0) 255) && leb (getD l 31 0) 1) && leb (getD l 32 0) 7) && leb (getD l 33 0) 1)
-    (λ f h. rw (le-leb (f 34) (2 ^ 64 - 1) h) (and-true _))
+    (λ f. refl)
 
 -- ---- the copying loops
 
@@ -90,7 +88,6 @@ pub chip-read :
       status = getD ws 30 0;
       «last_rs» = isSet (getD ws 31 0);
       phase = p;
-      count = getD ws 34 0;
     }
     ≡ chipOf ws
 unfolding chipOf
@@ -107,25 +104,25 @@ module _ (ws : List ℕ) (t : Bool) (et : t ≡ standsFor ws) where
 
 -- ---- the words that were written
 
--- six stores into six words
-abbrev six : List ℕ → ℕ → ℕ → ℕ → ℕ → ℕ → ℕ → List ℕ
-six l a b c d e f = set (set (set (set (set (set l 0 a) 1 b) 2 c) 3 d) 4 e) 5 f
+-- five stores into five words
+abbrev five : List ℕ → ℕ → ℕ → ℕ → ℕ → ℕ → List ℕ
+five l a b c d e = set (set (set (set (set l 0 a) 1 b) 2 c) 3 d) 4 e
 
-six-stored : (l : List ℕ) → length l ≡ 6 → (a b c d e f : ℕ) → six l a b c d e f ≡ a ∷ b ∷ c ∷ d ∷ e ∷ f ∷ []
-six-stored l n a b c d e f = subst (λ (k : List ℕ). six k a b c d e f ≡ a ∷ b ∷ c ∷ d ∷ e ∷ f ∷ []) (spelled 6 l n) refl
+five-stored : (l : List ℕ) → length l ≡ 5 → (a b c d e : ℕ) → five l a b c d e ≡ a ∷ b ∷ c ∷ d ∷ e ∷ []
+five-stored l n a b c d e = subst (λ (k : List ℕ). five k a b c d e ≡ a ∷ b ∷ c ∷ d ∷ e ∷ []) (spelled 5 l n) refl
 
--- the registers stand, then the six words behind them are stored
+-- the registers stand, then the five words behind them are stored
 pub written :
     (c : Chip) (ws l : List ℕ) (pins status last phase rs : ℕ)
     → length ws ≡ recordLength → l ≡ values (c .registers) ++ drop 29 ws
     → pins ≡ c .pins → status ≡ c .status → last ≡ bit (c .«last_rs») → phase ≡ phaseNumber (c .phase) → rs ≡ bit (phaseRs (c .phase))
-    → set (set (set (set (set (set l 29 pins) 30 status) 31 last) 32 phase) 33 rs) 34 (c .count) ≡ wordsOf c
+    → set (set (set (set (set l 29 pins) 30 status) 31 last) 32 phase) 33 rs ≡ wordsOf c
 unfolding wordsOf
 written c ws l pins status last phase rs n el ep es ea eh er =
     rw (el, ep, es, ea, eh, er)
     (ap (λ (k : List ℕ). values (c .registers) ++ k)
-    (six-stored (drop 29 ws) (rw (length-drop, n)) (c .pins) (c .status) (bit (c .«last_rs»)) (phaseNumber (c .phase))
-    (bit (phaseRs (c .phase))) (c .count)))
+    (five-stored (drop 29 ws) (rw (length-drop, n)) (c .pins) (c .status) (bit (c .«last_rs»)) (phaseNumber (c .phase))
+    (bit (phaseRs (c .phase)))))
 
 pub stored-whole : (c : Chip) (ws l : List ℕ) → length ws ≡ recordLength → l ≡ wordsOf c → l ≡ stored c ws
 unfolding stored

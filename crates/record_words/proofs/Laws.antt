@@ -3,7 +3,7 @@ use mathlib.Core.Path.{_≡_, refl, sym, ap, ap₂}
 use mathlib.Core.Bool.{Bool, true, false, cond, not, _&&_, _||_}
 use mathlib.Core.List.{List, [], _∷_, _++_}
 use mathlib.Core.Logic.{_↔_}
-use Prim.Native.Nat.{ℕ, _-_, _^_, _≤_}
+use Prim.Native.Nat.{ℕ, _≤_}
 use native.Mathlib.Omega.{arith}
 use borrow.Author.Tests.{eqb-true, eq-eqb, le-leb}
 use lib.Dec.{T, leb, eqb}
@@ -55,14 +55,14 @@ words-chip-words ws h =
     → wordsOf (chipOf l) ≡ l)
     (λ f last number rs.
     ap (λ (k : List ℕ). values (chipOf (tabulated f 0 recordLength) .registers) ++ (f 29 ∷ f 30 ∷ k))
-    (three _ _ _ _ _ _ (f 34) last number rs))
+    (three _ _ _ _ _ _ last number rs))
     ws (stands-length ws h)
     (bit-back (getD ws 31 0) (stands-at ws h 31))
     (eqb-true _ _ (both-left _ _ phase))
     (eqb-true _ _ (both-right (eqb (phaseNumber (phaseIn ws)) (getD ws 32 0)) _ phase))
   where
-    three : (a a′ b b′ c c′ d : ℕ) → a ≡ a′ → b ≡ b′ → c ≡ c′ → a ∷ b ∷ c ∷ d ∷ [] ≡ a′ ∷ b′ ∷ c′ ∷ d ∷ []
-    three a a′ b b′ c c′ d ea eb ec = rw (ea, eb, ec)
+    three : (a a′ b b′ c c′ : ℕ) → a ≡ a′ → b ≡ b′ → c ≡ c′ → a ∷ b ∷ c ∷ [] ≡ a′ ∷ b′ ∷ c′ ∷ []
+    three a a′ b b′ c c′ ea eb ec = rw (ea, eb, ec)
 
 -- ---- record, words, record
 
@@ -85,7 +85,7 @@ pub chip-words-chip : (c : Chip) → chipOf (wordsOf c) ≡ c
 unfolding wordsOf chipOf
 chip-words-chip c =
     ap₂
-    (λ (t : Bool) (p : Phase). record { registers = c .registers; pins = c .pins; status = c .status; «last_rs» = t; phase = p; count = c .count })
+    (λ (t : Bool) (p : Phase). record { registers = c .registers; pins = c .pins; status = c .status; «last_rs» = t; phase = p })
     (set-bit (c .«last_rs»))
     (same-phase (c .phase))
 
@@ -115,21 +115,19 @@ rs-bound (EndlessBytes false) = refl
 rs-bound Reading = refl
 rs-bound ReadEnded = refl
 
-all-six :
-    (a b c d e f : Bool) → a ≡ true → b ≡ true → c ≡ true → d ≡ true → e ≡ true → f ≡ true
-    → ((((a && b) && c) && d) && e) && f ≡ true
-all-six a b c d e f ea eb ec ed ee ef = rw (ea, eb, ec, ed, ee, ef)
+all-five :
+    (a b c d e : Bool) → a ≡ true → b ≡ true → c ≡ true → d ≡ true → e ≡ true → (((a && b) && c) && d) && e ≡ true
+all-five a b c d e ea eb ec ed ee = rw (ea, eb, ec, ed, ee)
 
 both : (a b : Bool) → a ≡ true → b ≡ true → a && b ≡ true
 both a b ea eb = rw (ea, eb)
 
--- an allowed record whose status is a byte and whose count has 64 bits stands in words
-pub allowed-stands : (c : Chip) → allowed c ≡ true → c .status ≤ 255 → c .count ≤ 2 ^ 64 - 1 → standsFor (wordsOf c) ≡ true
+-- an allowed record whose status is a byte stands in words
+pub allowed-stands : (c : Chip) → allowed c ≡ true → c .status ≤ 255 → standsFor (wordsOf c) ≡ true
 unfolding standsFor wordsOf allowed
-allowed-stands c h hs hc =
+allowed-stands c h hs =
     both _ _
-    (all-six _ _ _ _ _ _ h (le-leb (c .status) 255 hs) (bit-bound (c .«last_rs»)) (phase-bound (c .phase))
-    (bit-bound (phaseRs (c .phase))) (le-leb (c .count) (2 ^ 64 - 1) hc))
+    (all-five _ _ _ _ _ h (le-leb (c .status) 255 hs) (bit-bound (c .«last_rs»)) (phase-bound (c .phase)) (bit-bound (phaseRs (c .phase))))
     (rs-bound (c .phase))
 
 -- the other way round: the record is allowed, so that a step finds no 2 in it
@@ -137,7 +135,7 @@ pub stands-allowed : (ws : List ℕ) → standsFor ws ≡ true → allowed (chip
 unfolding chipOf allowed
 stands-allowed ws h =
     in-words (λ (l : List ℕ). within true l wordLimits ≡ true → allowed (chipOf l) ≡ true)
-    (λ f w. both-left _ _ (both-left _ _ (both-left _ _ (both-left _ _ (both-left _ _ w)))))
+    (λ f w. both-left _ _ (both-left _ _ (both-left _ _ (both-left _ _ w))))
     ws (stands-length ws h) (stands-within ws h)
 
 -- ---- reading and writing

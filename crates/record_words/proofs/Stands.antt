@@ -49,7 +49,7 @@ module _ (ws : List ℕ) (h : standsFor ws ≡ true) where
   pub stands-at : (i : ℕ) → getD ws i 0 ≤ getD wordLimits i 0
   stands-at i = within-at true ws wordLimits stands-within i
 
-  -- every word but the count is a byte
+  -- every word is a byte
   pub stands-byte : (i : ℕ) → i < 34 → getD ws i 0 < 256
   stands-byte i l =
       omega (arith, stands-at i, leb-true (getD wordLimits i 0) 255 (true-of _ (below-at 34 (λ k. leb (getD wordLimits k 0) 255) tt i l)))

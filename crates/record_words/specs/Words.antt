@@ -1,7 +1,7 @@
--- The chip's record as a host in C holds it: 35 words of 64 bits.
+-- The chip's record as a host in C holds it: 34 words of 64 bits.
 use mathlib.Core.Bool.{Bool, true, cond, _&&_, _||_}
 use mathlib.Core.List.{List, [], _∷_, _++_}
-use Prim.Native.Nat.{ℕ, _-_, _^_}
+use Prim.Native.Nat.{ℕ}
 use lib.Dec.{eqb}
 use lib.ListN.{length, getD}
 use Rattle.registers.specs.declared.Chip.{Chip}
@@ -27,12 +27,9 @@ PHASE = 32
 abbrev pub PHASE-RS : ℕ
 PHASE-RS = 33
 
-abbrev pub COUNT : ℕ
-COUNT = 34
-
--- the largest value of each word: the registers' limits, then pins 3, a byte, a bit, eight phases, a bit, any count
+-- the largest value of each word: the registers' limits, then pins 3, a byte, a bit, eight phases, a bit
 abbrev pub restLimits : List ℕ
-restLimits = 3 ∷ 255 ∷ 1 ∷ 7 ∷ 1 ∷ (2 ^ 64 - 1) ∷ []
+restLimits = 3 ∷ 255 ∷ 1 ∷ 7 ∷ 1 ∷ []
 
 abbrev pub wordLimits : List ℕ
 wordLimits = limits ++ restLimits
@@ -43,7 +40,7 @@ rsFits phase rs = eqb rs 0 || (eqb phase 4 || eqb phase 5)
 
 -- how many words a record has
 abbrev pub recordLength : ℕ
-recordLength = 35
+recordLength = 34
 
 -- these words are a chip's record
 unfoldable pub standsFor : List ℕ → Bool
@@ -81,13 +78,12 @@ chipOf ws =
       status = getD ws STATUS 0;
       «last_rs» = isSet (getD ws LAST-RS 0);
       phase = phaseOf (getD ws PHASE 0) (isSet (getD ws PHASE-RS 0));
-      count = getD ws COUNT 0;
     }
 
 unfoldable pub wordsOf : Chip → List ℕ
 wordsOf c =
     values (c .registers)
-    ++ (c .pins ∷ c .status ∷ bit (c .«last_rs») ∷ phaseNumber (c .phase) ∷ bit (phaseRs (c .phase)) ∷ c .count ∷ [])
+    ++ (c .pins ∷ c .status ∷ bit (c .«last_rs») ∷ phaseNumber (c .phase) ∷ bit (phaseRs (c .phase)) ∷ [])
 
 -- ---- what reading and writing give
 

@@ -10,8 +10,8 @@ use registers::Registers;
 
 mod phase;
 
-// The registers come first, then pins, status byte, last RS, phase, the phase's RS, count.
-pub const WORDS: usize = 35;
+// The registers come first, then pins, status byte, last RS, phase, the phase's RS.
+pub const WORDS: usize = 34;
 
 // What words say: a record, or nothing, as they stand for none.
 pub enum Read {
@@ -31,9 +31,9 @@ fn bit(b: bool) -> u64
     b as u64
 }
 
-// The limits are laid out once, before the words are gone through. Every count is within its limit.
+// The limits are laid out once, before the words are gone through.
 fn within_limits(words: &[u64]) -> bool
-    requires { ⌜ length (now words) ≡ 35 ⌝ }
+    requires { ⌜ length (now words) ≡ 34 ⌝ }
     ensures { λ r. ⌜ r ≡ within true (now (words .entry)) wordLimits ⌝ }
 {
     let limits = registers::limits::limits();
@@ -84,7 +84,6 @@ fn chip(words: &[u64]) -> Chip
         status: words[30] as u8,
         last_rs: words[31] == 1,
         phase: phase::of(words[32], words[33] == 1),
-        count: words[34],
     }
 }
 
@@ -99,7 +98,7 @@ pub fn read_record(words: &[u64]) -> Read
 }
 
 fn write_registers(registers: Registers, words: &mut [u64])
-    requires { ⌜ length (now words) ≡ 35 ⌝ }
+    requires { ⌜ length (now words) ≡ 34 ⌝ }
     ensures { λ _. ⌜ now (words .exit) ≡ values registers ++ drop 29 (now (words .entry)) ⌝ }
 {
     let bytes = registers.bytes();
@@ -111,7 +110,7 @@ fn write_registers(registers: Registers, words: &mut [u64])
 }
 
 fn write_all(chip: Chip, words: &mut [u64])
-    requires { ⌜ length (now words) ≡ 35 ⌝ }
+    requires { ⌜ length (now words) ≡ 34 ⌝ }
     ensures { λ _. ⌜ now (words .exit) ≡ wordsOf chip ⌝ }
 {
     write_registers(chip.registers, words);
@@ -121,7 +120,6 @@ fn write_all(chip: Chip, words: &mut [u64])
     words[31] = bit(chip.last_rs);
     words[32] = phase::number(phase);
     words[33] = bit(phase.rs());
-    words[34] = chip.count;
 }
 
 // Writes the record's words into the host's buffer, if it has a record's length.

@@ -35,17 +35,12 @@ shared-slice-read-of-2 c = omega (arith, stands-length _ (c .before .before .bef
 of-requires : tie.Need-of-requires
 of-requires c κs = stands-at _ (c .before .before .before .before .before .before .before .before .pre) 32
 
-shared-slice-read-t20 : tie.Need-shared-slice-read-t20
-shared-slice-read-t20 c =
-    let start = c .before .before .before .before .before .before .before .before .before .before in
-    omega (arith, stands-length _ (start .pre))
-
 returns : tie.Need-returns
 returns c =
-    let at-registers = c .before .before .before .before .before .before .before in
+    let at-registers = c .before .before .before .before .before .before in
     let start = at-registers .before .before .before in
     chip-read (start .args .words .now) _ _ _ (stands-length _ (start .pre)) (at-registers .before .register-bytes .ensures)
-    (at-registers .of-bytes .ensures) (c .before .of .ensures)
+    (at-registers .of-bytes .ensures) (c .of .ensures)
 
 pub chip-spec : {M : Type 1} → statement M
 chip-spec =
@@ -61,5 +56,4 @@ chip-spec =
     shared-slice-read-of
     shared-slice-read-of-2
     of-requires
-    shared-slice-read-t20
     returns)

@@ -69,8 +69,7 @@ returns c =
     let at-head = c .before .before .before .before .before .before in
     let known = at-head .before .before in
     let words = known .before .args .words .now in
-    let count = known .shared-slice-known .given 34 in
-    sym (rest-within (at-head .loop .fine) words (known .before .pre) (omega (arith, count)))
+    sym (rest-within (at-head .loop .fine) words (known .before .pre))
     ∙ at-rest (at-head .loop .fine) words (at-head .loop .i) (omega arith) (at-head .loop .inv .1)
 
 pub within-limits-spec : {M : Type 1} → statement M

@@ -43,9 +43,6 @@ bit-requires-2 c κs = search needs
 slice-write-words-5 : tie.Need-slice-write-words-5
 slice-write-words-5 c = simp length-set (omega arith)
 
-slice-write-words-6 : tie.Need-slice-write-words-6
-slice-write-words-6 c = simp length-set (omega arith)
-
 same-length : tie.Need-same-length
 same-length c = search needs
 
@@ -74,6 +71,5 @@ write-all-spec =
     rs-requires
     bit-requires-2
     slice-write-words-5
-    slice-write-words-6
     same-length
     returns)

@@ -8,7 +8,7 @@ use Rattle.record_words.proofs.write_registers.Statement.{statement}
 use Rattle.record_words.proofs.write_registers.Tie as tie
 
 abbrev Inv-loop : tie.InvT-loop
-Inv-loop words₀ bytes i₀ words i = (i ≤ 29) × (length words ≡ 35) × (words ≡ copied bytes words₀ i)
+Inv-loop words₀ bytes i₀ words i = (i ≤ 29) × (length words ≡ 34) × (words ≡ copied bytes words₀ i)
 
 abbrev μ-loop : tie.MeasureT-loop
 μ-loop words₀ bytes i₀ words i = 29 - i
