@@ -51,13 +51,13 @@ module _ (ws : List ℕ) (x : Read) (ex : x ≡ readOf ws) (no : x ≡ NoRecord)
   none : standsFor ws ≡ false
   none = read-none-exactly ws .0 (sym ex ∙ no)
 
-  pub step-no-record : (m w : List ℕ) (e n : ℕ) → n ≡ noRecord m w → stepped n ws m w ≡ stepCall e ws m w
+  pub step-no-record : (m w : List ℕ) (count e n : ℕ) → n ≡ noRecord m w → stepped n ws m w count ≡ stepCall e ws m w count
   unfolding stepCall
-  step-no-record m w e n en = rw (none, en)
+  step-no-record m w count e n en = rw (none, en)
 
-  pub run-no-record : (m w es : List ℕ) (n : ℕ) → n ≡ noRecord m w → ran n 0 0 0 ws m w ≡ runCall es ws m w
+  pub run-no-record : (m w es : List ℕ) (count n : ℕ) → n ≡ noRecord m w → ran n 0 0 0 ws m w count ≡ runCall es ws m w count
   unfolding runCall
-  run-no-record m w es n en = rw (none, en)
+  run-no-record m w es count n en = rw (none, en)
 
   pub place-no-record : (row column : ℕ) → 2 ≡ placeCall row column ws
   unfolding placeCall
@@ -88,17 +88,18 @@ module _ (ws : List ℕ) (x : Read) (c : Chip) (ex : x ≡ readOf ws) (is : x �
   chip = read-record-exactly ws c .0 (sym ex ∙ is) .1
 
   pub step-done :
-      (m w : List ℕ) (e n : ℕ) (c′ : Chip) (a : Answer) (l m′ w′ : List ℕ)
-      → after a c′ m′ w′ ≡ stepOf e (state c m w) → l ≡ stored c′ ws → n ≡ numberOf a → stepped n l m′ w′ ≡ stepCall e ws m w
+      (m w : List ℕ) (count e n : ℕ) (c′ : Chip) (a : Answer) (l m′ w′ : List ℕ) (count′ : ℕ)
+      → after a c′ m′ w′ count′ ≡ stepOf e (state c m w count) → l ≡ stored c′ ws → n ≡ numberOf a
+      → stepped n l m′ w′ count′ ≡ stepCall e ws m w count
   unfolding stepCall
-  step-done m w e n c′ a l m′ w′ ea el en = rw (stands, ← chip, ← ea, el ∙ stored-over ws c′ stands, en)
+  step-done m w count e n c′ a l m′ w′ count′ ea el en = rw (stands, ← chip, ← ea, el ∙ stored-over ws c′ stands, en)
 
   pub run-done :
-      (m w es : List ℕ) (n d u o : ℕ) (c′ : Chip) (l m′ w′ : List ℕ)
-      → outcome d n (state c′ m′ w′) ≡ runOf es (state c m w) → u ≡ tally Unknown es (state c m w)
-      → o ≡ tally OutOfRange es (state c m w) → l ≡ stored c′ ws → ran n d u o l m′ w′ ≡ runCall es ws m w
+      (m w es : List ℕ) (count n d u o : ℕ) (c′ : Chip) (l m′ w′ : List ℕ) (count′ : ℕ)
+      → outcome d n (state c′ m′ w′ count′) ≡ runOf es (state c m w count) → u ≡ tally Unknown es (state c m w count)
+      → o ≡ tally OutOfRange es (state c m w count) → l ≡ stored c′ ws → ran n d u o l m′ w′ count′ ≡ runCall es ws m w count
   unfolding runCall
-  run-done m w es n d u o c′ l m′ w′ er eu eo el = rw (stands, ← chip, ← er, ← eu, ← eo, el ∙ stored-over ws c′ stands)
+  run-done m w es count n d u o c′ l m′ w′ count′ er eu eo el = rw (stands, ← chip, ← er, ← eu, ← eo, el ∙ stored-over ws c′ stands)
 
   pub place-done : (row column n : ℕ) (a : Cell) → a ≡ cellOf c row column → n ≡ cellNumber a → n ≡ placeCall row column ws
   unfolding placeCall

@@ -122,19 +122,19 @@ module _ (e : ℕ) (s : State) (h : Stands s) where
       go (suc k) r q =
           absurd (omega (arith, ap (λ (x : After). numberOf (x .answer)) (refused e s k r), q, command-numbers a .0, r, refusal-at-most e s))
 
-pub counted-none : (es ws m w : List ℕ) → standsFor ws ≡ false → CountedByCalls es (buffers ws m w)
-counted-none es ws m w h =
+pub counted-none : (es ws m w : List ℕ) (count : ℕ) → standsFor ws ≡ false → CountedByCalls es (buffers ws m w count)
+counted-none es ws m w count h =
     record {
       unknown = ap (λ (r : Ran). r .unknown) ran-none ∙ none 260;
       out-of-range = ap (λ (r : Ran). r .out-of-range) ran-none ∙ none 261;
     }
   where
-    ran-none : runCall es ws m w ≡ ran (noRecord m w) 0 0 0 ws m w
-    ran-none = no-record-ran es ws m w h
+    ran-none : runCall es ws m w count ≡ ran (noRecord m w) 0 0 0 ws m w count
+    ran-none = no-record-ran es ws m w count h
 
     no-calls : (k : ℕ) (es : List ℕ) (b : Buffers) → 0 ≡ callsGiving k es 0 b
     no-calls k [] b = refl
     no-calls k (e ∷ es) b = refl
 
-    none : (k : ℕ) → 0 ≡ callsGiving k es (runCall es ws m w .done) (buffers ws m w)
-    none k = no-calls k es (buffers ws m w) ∙ ap (λ (r : Ran). callsGiving k es (r .done) (buffers ws m w)) (sym ran-none)
+    none : (k : ℕ) → 0 ≡ callsGiving k es (runCall es ws m w count .done) (buffers ws m w count)
+    none k = no-calls k es (buffers ws m w count) ∙ ap (λ (r : Ran). callsGiving k es (r .done) (buffers ws m w count)) (sym ran-none)

@@ -3,4 +3,5 @@ pub mod Refusals
 pub mod Steps
 pub mod Commands
 pub mod Playing
+pub mod Views
 pub mod Laws

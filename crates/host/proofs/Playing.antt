@@ -50,7 +50,7 @@ played-by-calls ls es s h d =
       acknowledged = λ i l b other. number i l ∙ acknowledged-number _ (d .all-good i l .acknowledged b) (no-command i l other);
       same-picture = ap pictureIn ends ∙ picture-of (played es s) ∙ d .same-picture ∙ ap (plainReading ls) (sym (picture-of s));
       same-run =
-          call-runs es s h ∙ whole ∙ ap (λ (b : Buffers). ran 0 (length es) 0 0 (b .words) (b .memory) (b .writers)) (sym ends);
+          call-runs es s h ∙ whole ∙ ap (λ (b : Buffers). ran 0 (length es) 0 0 (b .words) (b .memory) (b .writers) (b .count)) (sym ends);
     }
   where
     accepted : Accepted es (length es) s
@@ -175,8 +175,8 @@ module _ (es : List ℕ) (s : State) (k : ℕ) (h : Stands s) where
   pub last-writer-stands : LastWriterByCalls es (buffersOf s) k
   last-writer-stands = from-chip (last-writer es s k)
 
-pub last-writer-none : (es ws m w : List ℕ) (k : ℕ) → standsFor ws ≡ false → LastWriterByCalls es (buffers ws m w) k
-last-writer-none es ws m w k h =
+pub last-writer-none : (es ws m w : List ℕ) (count k : ℕ) → standsFor ws ≡ false → LastWriterByCalls es (buffers ws m w count) k
+last-writer-none es ws m w count k h =
     inl
     record {
       none = λ i l st. absurd (omega (arith, ap (λ (r : Ran). r .done) ran-none));
@@ -184,5 +184,5 @@ last-writer-none es ws m w k h =
       writer = ap (λ (r : Ran). getD (r .writers) k 0) ran-none;
     }
   where
-    ran-none : runCall es ws m w ≡ ran (noRecord m w) 0 0 0 ws m w
-    ran-none = no-record-ran es ws m w h
+    ran-none : runCall es ws m w count ≡ ran (noRecord m w) 0 0 0 ws m w count
+    ran-none = no-record-ran es ws m w count h

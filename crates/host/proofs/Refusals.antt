@@ -5,12 +5,12 @@ use mathlib.Core.List.{List}
 use Prim.Native.Nat.{ℕ, _≤_}
 use native.Mathlib.Omega.{arith}
 use lib.Dec.{eqb}
-use lib.ListN.{length, getD}
+use lib.ListN.{length}
 use Rattle.registers.specs.Refusals.{refuse, _then_}
 use Rattle.registers.specs.State.{state, places}
 use Rattle.engine.specs.Step as inside
 use Rattle.engine.specs.Step.{eventRefusal, refusalOf}
-use Rattle.record_words.specs.Words.{COUNT, standsFor, chipOf}
+use Rattle.record_words.specs.Words.{standsFor, chipOf}
 use Rattle.host.specs.Calls.{noRecord, stepRefusal, entryRefusal}
 use Rattle.record_words.proofs.Laws.{stands-allowed}
 
@@ -29,9 +29,9 @@ module _ (ws m w : List ℕ) where
   pub entry-of-none : standsFor ws ≡ false → entryRefusal ws m w ≡ noRecord m w
   entry-of-none n = rw n
 
-  pub entry-of-chip : standsFor ws ≡ true → inside.entryRefusal (state (chipOf ws) m w) ≡ entryRefusal ws m w
+  pub entry-of-chip : (count : ℕ) → standsFor ws ≡ true → inside.entryRefusal (state (chipOf ws) m w count) ≡ entryRefusal ws m w
   unfolding inside.entryRefusal
-  entry-of-chip h = rw (stands-allowed ws h, h)
+  entry-of-chip count h = rw (stands-allowed ws h, h)
 
   -- words that stand for no record are refused at entry
   pub refused-at-entry : standsFor ws ≡ false → (rest : ℕ) → entryRefusal ws m w then rest ≡ noRecord m w
@@ -41,6 +41,6 @@ module _ (ws m w : List ℕ) where
       go true e = rw e
       go false e = rw e
 
-  pub refusal-of-chip : (event : ℕ) → standsFor ws ≡ true → refusalOf event (state (chipOf ws) m w) ≡ stepRefusal event ws m w
-  unfolding refusalOf chipOf
-  refusal-of-chip event h = ap (λ (k : ℕ). k then eventRefusal event (getD ws COUNT 0)) (entry-of-chip h)
+  pub refusal-of-chip : (event count : ℕ) → standsFor ws ≡ true → refusalOf event (state (chipOf ws) m w count) ≡ stepRefusal event ws m w count
+  unfolding refusalOf
+  refusal-of-chip event count h = ap (λ (k : ℕ). k then eventRefusal event count) (entry-of-chip count h)

@@ -2,7 +2,7 @@
 use mathlib.Core.Bool.{Bool, true, false, cond, _&&_}
 use mathlib.Core.List.{List, [], _∷_}
 use mathlib.Core.Path.{_≡_, refl, sym, ap}
-use Prim.Native.Nat.{ℕ, zero, suc, _+_, _-_, _^_, _≤_, _<_, suc-le-suc}
+use Prim.Native.Nat.{ℕ, zero, suc, _-_, _≤_, _<_, suc-le-suc}
 use native.Mathlib.Omega.{arith}
 use borrow.Author.Tests.{ltb-true}
 use lib.Dec.{eqb, ltb}
@@ -22,8 +22,8 @@ use Rattle.engine.specs.Step.{After, acknowledge, contentOf, onByte, applied, a
 use Rattle.engine.proofs.Refusals.{accepts}
 use Rattle.chip.specs.LastWriter.{before}
 use Rattle.chip.specs.Plays.{played}
-use Rattle.chip.proofs.Laws.{stays-fit, count-law}
-use Rattle.record_words.specs.Words.{STATUS, COUNT, standsFor, chipOf, wordsOf}
+use Rattle.chip.proofs.Laws.{stays-fit}
+use Rattle.record_words.specs.Words.{STATUS, standsFor, chipOf, wordsOf}
 use Rattle.record_words.proofs.Laws.{words-chip-words, chip-words-chip, allowed-stands}
 use Rattle.record_words.proofs.Stands.{stands-at}
 use Rattle.host.specs.Calls.{afterStep, stepCall, runFor, runCall, noRecord, stepped, ran}
@@ -48,20 +48,20 @@ unfolding acknowledge
 acknowledges true = tt
 acknowledges false = tt
 
-content-sound : (rs : Bool) (p : Phase) (b number : ℕ) (s : State) → s .chip .status ≤ 255 → Sound (contentOf rs p b number s)
-content-sound true p b number s h = record { answered = tt; status-byte = h }
-content-sound false p b number s h = record { answered = tt; status-byte = h }
+content-sound : (rs : Bool) (p : Phase) (b : ℕ) (s : State) → s .chip .status ≤ 255 → Sound (contentOf rs p b s)
+content-sound true p b s h = record { answered = tt; status-byte = h }
+content-sound false p b s h = record { answered = tt; status-byte = h }
 
-byte-sound : (p : Phase) (b number : ℕ) (s : State) → s .chip .status ≤ 255 → Sound (onByte p b number s)
+byte-sound : (p : Phase) (b : ℕ) (s : State) → s .chip .status ≤ 255 → Sound (onByte p b s)
 unfolding controlled
-byte-sound Idle b number s h = record { answered = tt; status-byte = h }
-byte-sound AddressAwaited b number s h = record { answered = acknowledges _; status-byte = h }
-byte-sound Ignoring b number s h = record { answered = tt; status-byte = h }
-byte-sound ControlAwaited b number s h = record { answered = tt; status-byte = h }
-byte-sound (OneByte rs) b number s h = content-sound rs ControlAwaited b number s h
-byte-sound (EndlessBytes rs) b number s h = content-sound rs (EndlessBytes rs) b number s h
-byte-sound Reading b number s h = record { answered = tt; status-byte = h }
-byte-sound ReadEnded b number s h = record { answered = tt; status-byte = h }
+byte-sound Idle b s h = record { answered = tt; status-byte = h }
+byte-sound AddressAwaited b s h = record { answered = acknowledges _; status-byte = h }
+byte-sound Ignoring b s h = record { answered = tt; status-byte = h }
+byte-sound ControlAwaited b s h = record { answered = tt; status-byte = h }
+byte-sound (OneByte rs) b s h = content-sound rs ControlAwaited b s h
+byte-sound (EndlessBytes rs) b s h = content-sound rs (EndlessBytes rs) b s h
+byte-sound Reading b s h = record { answered = tt; status-byte = h }
+byte-sound ReadEnded b s h = record { answered = tt; status-byte = h }
 
 -- a sensor reading is a byte
 abbrev SensorByte : Event → Type 0
@@ -102,24 +102,22 @@ either : (t : Bool) (a b : ℕ) → a ≤ 255 → b ≤ 255 → cond t a b ≤ 2
 either true a b ha hb = ha
 either false a b ha hb = hb
 
-applied-sound : (v : Event) (number : ℕ) (s : State) → SensorByte v → s .chip .status ≤ 255 → Sound (applied v number s)
+applied-sound : (v : Event) (s : State) → SensorByte v → s .chip .status ≤ 255 → Sound (applied v s)
 unfolding applied pulsed sensed
-applied-sound (Byte b) number s v h = byte-sound (s .chip .phase) b number s h
-applied-sound Start number s v h = record { answered = tt; status-byte = h }
-applied-sound Stop number s v h = record { answered = tt; status-byte = h }
-applied-sound ReadAcknowledged number s v h = record { answered = tt; status-byte = h }
-applied-sound ReadNotAcknowledged number s v h = record { answered = tt; status-byte = h }
-applied-sound Reset number s v h = record { answered = tt; status-byte = omega arith }
-applied-sound (Sensor value) number s v h =
+applied-sound (Byte b) s v h = byte-sound (s .chip .phase) b s h
+applied-sound Start s v h = record { answered = tt; status-byte = h }
+applied-sound Stop s v h = record { answered = tt; status-byte = h }
+applied-sound ReadAcknowledged s v h = record { answered = tt; status-byte = h }
+applied-sound ReadNotAcknowledged s v h = record { answered = tt; status-byte = h }
+applied-sound Reset s v h = record { answered = tt; status-byte = omega arith }
+applied-sound (Sensor value) s v h =
     let sampled = eqb (s .chip .registers .sm) 1 && eqb (s .chip .registers .pd) 0 in
     record { answered = tt; status-byte = either sampled value (s .chip .status) v h }
-applied-sound Unlisted number s v h = record { answered = tt; status-byte = h }
+applied-sound Unlisted s v h = record { answered = tt; status-byte = h }
 
 step-sound : (e : ℕ) (s : State) → refusalOf e s ≡ 0 → s .chip .status ≤ 255 → Sound (stepOf e s)
-unfolding stepOf accepted counted
-step-sound e s r h =
-    rw r
-    (applied-sound (eventOf e) (s .chip .count + 1) (state (counted (s .chip)) (s .memory) (s .writers)) (sensor-byte e) h)
+unfolding stepOf accepted
+step-sound e s r h = rw r (applied-sound (eventOf e) (counted s) (sensor-byte e) h)
 
 pub command-numbers : (a : CommandAnswer) → (259 ≤ commandNumber a) × (commandNumber a ≤ 261)
 command-numbers Taken = (omega arith, omega arith)
@@ -169,7 +167,7 @@ number-acknowledged (Read b) n h = absurd (omega arith)
 
 -- the buffers that hold a state
 abbrev pub buffersOf : State → Buffers
-buffersOf s = buffers (wordsOf (s .chip)) (s .memory) (s .writers)
+buffersOf s = buffers (wordsOf (s .chip)) (s .memory) (s .writers) (s .count)
 
 abbrev pub Stands : State → Type 0
 Stands s = standsFor (wordsOf (s .chip)) ≡ true
@@ -178,10 +176,6 @@ module _ (s : State) (h : Stands s) where
   stands-status : s .chip .status ≤ 255
   unfolding wordsOf
   stands-status = stands-at (wordsOf (s .chip)) h STATUS
-
-  stands-count : s .chip .count ≤ 2 ^ 64 - 1
-  unfolding wordsOf
-  stands-count = stands-at (wordsOf (s .chip)) h COUNT
 
   pub call-steps : (e : ℕ) → stepOn e (buffersOf s) ≡ afterStep (stepOf e s)
   unfolding stepCall
@@ -192,9 +186,7 @@ module _ (s : State) (h : Stands s) where
 
   pub stays-standing : (e : ℕ) → refusalOf e s ≡ 0 → Stands (stepOf e s .state)
   stays-standing e r =
-      let taken = accepts e s r in
-      let counted : stepOf e s .state .chip .count ≤ 2 ^ 64 - 1 = omega (arith, count-law e s r, stands-count, taken .room) in
-      allowed-stands (stepOf e s .state .chip) (stays-fit e s r (taken .fit) .is-allowed) (step-answers e r .status-byte) counted
+      allowed-stands (stepOf e s .state .chip) (stays-fit e s r (accepts e s r .fit) .is-allowed) (step-answers e r .status-byte)
 
 -- ---- events one by one, the first n of which are not refused
 
@@ -219,21 +211,22 @@ after-events (e ∷ es) s h all =
     rw (call-steps s h e) (after-events es (stepOf e s .state) (stays-standing s h e r) (λ j k. all (suc j) (suc-le-suc k)))
 
 -- words that stand for a record are the buffers of the state with that record
-pub as-buffers : (ws m w : List ℕ) → standsFor ws ≡ true → buffers ws m w ≡ buffersOf (state (chipOf ws) m w)
-as-buffers ws m w h = ap (λ (l : List ℕ). buffers l m w) (sym (words-chip-words ws h))
+pub as-buffers : (ws m w : List ℕ) (count : ℕ) → standsFor ws ≡ true → buffers ws m w count ≡ buffersOf (state (chipOf ws) m w count)
+as-buffers ws m w count h = ap (λ (l : List ℕ). buffers l m w count) (sym (words-chip-words ws h))
 
-pub as-stands : (ws m w : List ℕ) → standsFor ws ≡ true → Stands (state (chipOf ws) m w)
-as-stands ws m w h = rw (words-chip-words ws h) h
+pub as-stands : (ws m w : List ℕ) (count : ℕ) → standsFor ws ≡ true → Stands (state (chipOf ws) m w count)
+as-stands ws m w count h = rw (words-chip-words ws h) h
 
 pub call-runs : (es : List ℕ) (s : State) → Stands s → runOn es (buffersOf s) ≡ runFor es s
 unfolding runCall
 call-runs es s h = rw (h, chip-words-chip (s .chip))
 
 -- words that stand for no record: nothing was done
-pub no-record-ran : (es ws m w : List ℕ) → standsFor ws ≡ false → runCall es ws m w ≡ ran (noRecord m w) 0 0 0 ws m w
+pub no-record-ran : (es ws m w : List ℕ) (count : ℕ) → standsFor ws ≡ false → runCall es ws m w count ≡ ran (noRecord m w) 0 0 0 ws m w count
 unfolding runCall
-no-record-ran es ws m w h = rw h
+no-record-ran es ws m w count h = rw h
 
-pub no-record-stepped : (e : ℕ) (ws m w : List ℕ) → standsFor ws ≡ false → stepCall e ws m w ≡ stepped (noRecord m w) ws m w
+pub no-record-stepped :
+    (e : ℕ) (ws m w : List ℕ) (count : ℕ) → standsFor ws ≡ false → stepCall e ws m w count ≡ stepped (noRecord m w) ws m w count
 unfolding stepCall
-no-record-stepped e ws m w h = rw h
+no-record-stepped e ws m w count h = rw h

@@ -13,28 +13,29 @@ use Rattle.chip.specs.Promised.{CommandAnswer, CommandWhen, placeOf, storedOf}
 use Rattle.lists.specs.declared.Line.{Line}
 use Rattle.lists.specs.Lists.{lines, readingOf}
 use Rattle.drawing.specs.Plain.{Picture, plainReading}
-use Rattle.record_words.specs.Words.{PHASE, PHASE-RS, COUNT}
+use Rattle.record_words.specs.Words.{PHASE, PHASE-RS}
 use Rattle.host.specs.Calls.{Stepped, stepCall, stepRefusal, Ran, ran, runCall}
 
--- what is lent with an event: the record's words, display bytes and writer numbers
+-- what is lent with an event: the record's words, display bytes, writer numbers and the event count
 pub record Buffers : Type 0 where
   pub words : List ℕ
   pub memory : List ℕ
   pub writers : List ℕ
+  pub count : ℕ
 
-abbrev pub buffers : List ℕ → List ℕ → List ℕ → Buffers
-buffers ws m w = record { words = ws; memory = m; writers = w }
+abbrev pub buffers : List ℕ → List ℕ → List ℕ → ℕ → Buffers
+buffers ws m w count = record { words = ws; memory = m; writers = w; count = count }
 
 -- a call of pcf8820_step, and one of pcf8820_run
 abbrev pub stepOn : ℕ → Buffers → Stepped
-stepOn e b = stepCall e (b .words) (b .memory) (b .writers)
+stepOn e b = stepCall e (b .words) (b .memory) (b .writers) (b .count)
 
 abbrev pub runOn : List ℕ → Buffers → Ran
-runOn es b = runCall es (b .words) (b .memory) (b .writers)
+runOn es b = runCall es (b .words) (b .memory) (b .writers) (b .count)
 
 -- the buffers as a step leaves them
 abbrev pub leftBy : Stepped → Buffers
-leftBy r = buffers (r .words) (r .memory) (r .writers)
+leftBy r = buffers (r .words) (r .memory) (r .writers) (r .count)
 
 -- the buffers that event i of the list comes upon, counted from 0, where each call is lent what the one before it left
 abbrev pub uponEvent : List ℕ → ℕ → Buffers → Buffers
@@ -55,7 +56,7 @@ CommandAwaited b = ((getD (b .words) PHASE 0 ≡ 4) ⊎ (getD (b .words) PHASE 0
 
 -- event e, lent these buffers, is a command byte that is accepted, and the sheet has this answer to it in the present page
 pub record AnsweredAs (a : CommandAnswer) (e : ℕ) (b : Buffers) : Type 0 where
-  pub not-refused : stepRefusal e (b .words) (b .memory) (b .writers) ≡ 0
+  pub not-refused : stepRefusal e (b .words) (b .memory) (b .writers) (b .count) ≡ 0
   pub is-byte : e < 256
   pub awaited : CommandAwaited b
   pub in-page : CommandWhen (getD (b .words) H 0) e a
@@ -88,15 +89,17 @@ pub record PlayedByCalls (ls : List Line) (es : List ℕ) (b : Buffers) : Type 0
   -- the buffers are those of the list's plain reading
   pub same-picture : pictureIn (afterEvents es b) ≡ plainReading ls (pictureIn b)
   -- pcf8820_run over the same events gives 0, does them all, counts no command that was unknown or out of range, and leaves the same buffers
-  pub same-run : runOn es b ≡ ran 0 (length es) 0 0 (afterEvents es b .words) (afterEvents es b .memory) (afterEvents es b .writers)
+  pub same-run :
+      runOn es b
+      ≡ ran 0 (length es) 0 0 (afterEvents es b .words) (afterEvents es b .memory) (afterEvents es b .writers) (afterEvents es b .count)
 
--- the text has a plain reading, and the output's first n events play it: with any two memories 1,717 long, and with room in the count's word
+-- the text has a plain reading, and the output's first n events play it: with any two memories 1,717 long, and from any count that has room for them
 pub record DrawnByCalls (ws text : List ℕ) (n : ℕ) (out : List ℕ) : Type 0 where
   pub list : List Line
   pub reads : readingOf text ≡ lines list
   pub plays :
-      (m w : List ℕ) → length m ≡ places → length w ≡ places → getD ws COUNT 0 + n < 2 ^ 64
-      → PlayedByCalls list (take n out) (buffers ws m w)
+      (m w : List ℕ) (count : ℕ) → length m ≡ places → length w ≡ places → count + n < 2 ^ 64
+      → PlayedByCalls list (take n out) (buffers ws m w count)
 
 -- ---- the last writer
 
@@ -121,7 +124,7 @@ pub record WrittenByCalls (es : List ℕ) (b : Buffers) (k : ℕ) : Type 0 where
   pub stored : StoredByCall (getD es event 0) (uponEvent es event b) k
   pub is-last : (j : ℕ) → event < j → j < runOn es b .done → StoredByCall (getD es j 0) (uponEvent es j b) k → ⊥
   pub byte : getD (runOn es b .memory) k 0 ≡ storedOf (ofValues (uponEvent es event b .words)) (getD es event 0)
-  pub writer : getD (runOn es b .writers) k 0 ≡ getD (b .words) COUNT 0 + (event + 1)
+  pub writer : getD (runOn es b .writers) k 0 ≡ b .count + (event + 1)
 
 abbrev pub LastWriterByCalls : List ℕ → Buffers → ℕ → Type 0
 LastWriterByCalls es b k = UntouchedByCalls es b k ⊎ WrittenByCalls es b k

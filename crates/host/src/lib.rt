@@ -37,23 +37,25 @@ pub extern "C" fn pcf8820_reset(record: &mut [u64], pins: u64) -> u64
     0
 }
 
-// One bus event.
+// One bus event. A refused one leaves the count as it is.
 #[no_mangle]
 pub extern "C" fn pcf8820_step(
     record: &mut [u64],
     memory: &mut [u8],
     writers: &mut [u64],
+    count: &mut u64,
     event: u16,
 ) -> u64
-    ensures { λ r. ⌜ stepped r (now («record» .exit)) (now (memory .exit)) (now (writers .exit))
-        ≡ stepCall event (now («record» .entry)) (now (memory .entry)) (now (writers .entry)) ⌝ }
+    ensures { λ r. ⌜ stepped r (now («record» .exit)) (now (memory .exit)) (now (writers .exit)) (now (count .exit))
+        ≡ stepCall event (now («record» .entry)) (now (memory .entry)) (now (writers .entry)) (now (count .entry)) ⌝ }
 {
     let found = read_record(record);
     let Read::Record(chip) = found else {
         return no_record(memory.len(), writers.len());
     };
-    let stepped = engine::step::step(event, chip, memory, writers);
+    let stepped = engine::step::step(event, chip, *count, memory, writers);
     let answer = stepped.answer;
+    *count = stepped.count;
     write_record(stepped.chip, record);
     answer.number()
 }
@@ -64,13 +66,15 @@ pub extern "C" fn pcf8820_run(
     record: &mut [u64],
     memory: &mut [u8],
     writers: &mut [u64],
+    count: &mut u64,
     events: &[u16],
     done: &mut u64,
     unknown: &mut u64,
     out_of_range: &mut u64,
 ) -> u64
-    ensures { λ r. ⌜ ran r (now (done .exit)) (now (unknown .exit)) (now («out_of_range» .exit)) (now («record» .exit)) (now (memory .exit)) (now (writers .exit))
-        ≡ runCall (now (events .entry)) (now («record» .entry)) (now (memory .entry)) (now (writers .entry)) ⌝ }
+    ensures { λ r. ⌜ ran r (now (done .exit)) (now (unknown .exit)) (now («out_of_range» .exit))
+        (now («record» .exit)) (now (memory .exit)) (now (writers .exit)) (now (count .exit))
+        ≡ runCall (now (events .entry)) (now («record» .entry)) (now (memory .entry)) (now (writers .entry)) (now (count .entry)) ⌝ }
 {
     let found = read_record(record);
     let Read::Record(chip) = found else {
@@ -79,7 +83,8 @@ pub extern "C" fn pcf8820_run(
         *out_of_range = 0;
         return no_record(memory.len(), writers.len());
     };
-    let ran = engine::run::run(chip, memory, writers, events);
+    let ran = engine::run::run(chip, *count, memory, writers, events);
+    *count = ran.count;
     *done = ran.done as u64;
     *unknown = ran.unknown as u64;
     *out_of_range = ran.out_of_range as u64;

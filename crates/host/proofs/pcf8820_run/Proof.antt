@@ -19,7 +19,7 @@ same-length : tie.Need-same-length
 same-length c = search needs
 
 returns : tie.Need-returns
-returns c = run-no-record _ _ (c .before .before .before .read-record .ensures) (c .before .enum-told .given .1) _ _ _ _ (c .no-record .ensures)
+returns c = run-no-record _ _ (c .before .before .before .read-record .ensures) (c .before .enum-told .given .1) _ _ _ _ _ (c .no-record .ensures)
 
 run-requires : tie.Need-run-requires
 run-requires c κs = search needs
@@ -43,8 +43,8 @@ returns-2 : tie.Need-returns-2
 returns-2 c =
     let written = c .before .before .before in
     let played = written .before .before .before .before .before .before in
-    let found = played .before .before .before .before in
-    run-done _ _ _ (found .before .before .read-record .ensures) (found .found .given .1) _ _ _ _ _ _ _ _ _ _ _ (played .run .ensures .0)
+    let found = played .before .before .before .before .before in
+    run-done _ _ _ (found .before .before .read-record .ensures) (found .found .given .1) _ _ _ _ _ _ _ _ _ _ _ _ _ (played .run .ensures .0)
     (played .run .ensures .1 .0) (played .run .ensures .1 .1)
     (written .write-record .ensures)
 
