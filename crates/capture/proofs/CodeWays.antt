@@ -28,8 +28,8 @@ module _ (known line : LineSoFar) (e : line ≡ known) where
   pub ended-known : (s : State) (p : Playing) → p ≡ endedLine known s → p ≡ endedLine line s
   ended-known s p h = rw e h
 
-  pub end-known : (c : Chip) (n : End) → n ≡ endOf known c → n ≡ endOf line c
-  end-known c n h = rw e h
+  pub end-known : (c : Chip) (n : ℕ) (r : End) → r ≡ endOf known c n → r ≡ endOf line c n
+  end-known c n r h = rw e h
 
   pub allowed-known : (t : Bool) → t ≡ lineAllowed known → t ≡ lineAllowed line
   allowed-known t h = rw e h

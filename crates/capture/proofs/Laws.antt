@@ -56,7 +56,7 @@ pub finish-refused-exactly :
 unfolding finishOf
 finish-refused-exactly k c n = go k (captureAllowed (c .line) (c .chip))
   where
-    no-end : (l : LineSoFar) → endOf l (c .chip) ≡ ends.Refused n → ⊥
+    no-end : (l : LineSoFar) → endOf l (c .chip) (c .count) ≡ ends.Refused n → ⊥
     no-end (First i) h = let z : _≡_ {A = ℕ} 0 1 = cc h in omega arith
     no-end (Pins i) h = let z : _≡_ {A = ℕ} 0 1 = cc h in omega arith
     no-end Empty h = let z : _≡_ {A = ℕ} 0 1 = cc h in omega arith
@@ -66,7 +66,7 @@ finish-refused-exactly k c n = go k (captureAllowed (c .line) (c .chip))
 
     go :
         (k : ℕ) (a : Bool)
-        → (endUnless (k then refuse (not a) 2) (endOf (c .line) (c .chip)) ≡ ends.Refused n)
+        → (endUnless (k then refuse (not a) 2) (endOf (c .line) (c .chip) (c .count)) ≡ ends.Refused n)
         ↔ (((k ≡ n) × (n ≡ 0 → ⊥)) ⊎ ((k ≡ 0) × (n ≡ 2) × (a ≡ false)))
     go zero true = (λ h. absurd (no-end (c .line) h), ⊎-elim (λ h. absurd (h .1 (sym (h .0)))) (λ h. absurd (subst T (h .2) tt)))
     go zero false = (λ h. inr (refl, cc h, refl), ⊎-elim (λ h. absurd (h .1 (sym (h .0)))) (λ h. rw (h .1)))

@@ -35,7 +35,7 @@ use Rattle.capture.proofs.Refusals.{started-fit, with-bytes-allowed}
 
 -- what it comes to if nothing more is fed
 abbrev pub resultOf : Playing → Replay
-resultOf p = meaning (endOf (p .line) (p .state .chip)) (p .state .memory) (p .state .writers)
+resultOf p = meaning (endOf (p .line) (p .state .chip) (p .state .count)) (p .state .memory) (p .state .writers)
 
 -- what the lines say is played, n events being done
 abbrev pub playFrom : ℕ → EventsRead → State → Replay
@@ -58,7 +58,7 @@ stuck-first [] s = refl
 stuck-first (b ∷ xs) s = ap (λ (p : Playing). bytesFed xs p) (either (eqb b newline) (playing BadFirst s)) ∙ stuck-first xs s
 
 -- at the line after the events that are counted
-bad-line : (xs : List ℕ) (s : State) → resultOf (bytesFed xs (playing Bad s)) ≡ refusedAt (s .chip .count + 2) s
+bad-line : (xs : List ℕ) (s : State) → resultOf (bytesFed xs (playing Bad s)) ≡ refusedAt (s .count + 2) s
 unfolding meaning
 bad-line xs s = ap resultOf (stuck xs s)
 
@@ -79,45 +79,45 @@ none-left n t s fit = rw (run-none s fit, add-zero)
 
 -- a newline behind a line, whatever the lines behind it come to
 module _ (bs : List ℕ) (rest : EventsRead)
-    (h : (s : State) → Fit s → resultOf (bytesFed bs (playing Empty s)) ≡ playFrom (s .chip .count) rest s) (s : State) (fit : Fit s) where
+    (h : (s : State) → Fit s → resultOf (bytesFed bs (playing Empty s)) ≡ playFrom (s .count) rest s) (s : State) (fit : Fit s) where
   -- o is what the event leaves
   outcome-ended :
-      (o : Outcome) → Fit (o .state) → o .state .chip .count ≡ s .chip .count + o .done → (k : ℕ) → o .refusal ≡ k
+      (o : Outcome) → Fit (o .state) → o .state .count ≡ s .count + o .done → (k : ℕ) → o .refusal ≡ k
       → resultOf (bytesFed bs (playing (lineAfter k) (o .state)))
-      ≡ replayBy (moreDone (s .chip .count) (onward k o (moreDone (o .done) (runOf (rest .events) (o .state))))) (rest .all-good)
+      ≡ replayBy (moreDone (s .count) (onward k o (moreDone (o .done) (runOf (rest .events) (o .state))))) (rest .all-good)
   outcome-ended o fit′ counted zero q =
       let r : Outcome = runOf (rest .events) (o .state) in
       h (o .state) fit′
       ∙ ap (λ (n : ℕ). endedBy (r .refusal) (rest .all-good) n (r .state)) (omega (arith, counted))
   outcome-ended o fit′ counted (suc k) q = bad-line bs (o .state) ∙ rw (q, counted)
 
-  event-ended : (e : ℕ) → resultOf (bytesFed bs (played (runOf (e ∷ []) s))) ≡ playFrom (s .chip .count) (withEvent (Value e) rest) s
+  event-ended : (e : ℕ) → resultOf (bytesFed bs (played (runOf (e ∷ []) s))) ≡ playFrom (s .count) (withEvent (Value e) rest) s
   event-ended e =
       outcome-ended (runOf (e ∷ []) s) (run-stays-fit (e ∷ []) s fit) (run-counts (e ∷ []) s) (runOf (e ∷ []) s .refusal) refl
       ∙ rw (run-then (e ∷ []) (rest .events) s)
 
-  line-ended : (p : List ℕ) → resultOf (bytesFed bs (endedLine (eventLine p) s)) ≡ playFrom (s .chip .count) (withEvent (numberOf p) rest) s
+  line-ended : (p : List ℕ) → resultOf (bytesFed bs (endedLine (eventLine p) s)) ≡ playFrom (s .count) (withEvent (numberOf p) rest) s
   unfolding endedLine numberOf
-  line-ended [] = bad-line bs s ∙ rw (none-left (s .chip .count) false s fit)
+  line-ended [] = bad-line bs s ∙ rw (none-left (s .count) false s fit)
   line-ended (x ∷ p) = go (numberOf (x ∷ p))
     where
-      go : (v : numbers.Number) → resultOf (bytesFed bs (endedLine (ofNumber v) s)) ≡ playFrom (s .chip .count) (withEvent v rest) s
-      go Malformed = bad-line bs s ∙ rw (none-left (s .chip .count) false s fit)
+      go : (v : numbers.Number) → resultOf (bytesFed bs (endedLine (ofNumber v) s)) ≡ playFrom (s .count) (withEvent v rest) s
+      go Malformed = bad-line bs s ∙ rw (none-left (s .count) false s fit)
       go (Value e) = event-ended e
 
 -- no newline follows
-line-left : (p : List ℕ) (s : State) → Fit s → resultOf (playing (eventLine p) s) ≡ playFrom (s .chip .count) (eventsOf ((p ++ []) ∷ [])) s
+line-left : (p : List ℕ) (s : State) → Fit s → resultOf (playing (eventLine p) s) ≡ playFrom (s .count) (eventsOf ((p ++ []) ∷ [])) s
 unfolding meaning
-line-left [] s fit = rw (none-left (s .chip .count) true s fit)
-line-left (x ∷ p) s fit = go (numberOf (x ∷ p)) ∙ rw (none-left (s .chip .count) false s fit)
+line-left [] s fit = rw (none-left (s .count) true s fit)
+line-left (x ∷ p) s fit = go (numberOf (x ∷ p)) ∙ rw (none-left (s .count) false s fit)
   where
-    go : (v : numbers.Number) → resultOf (playing (ofNumber v) s) ≡ refusedAt (s .chip .count + 2) s
+    go : (v : numbers.Number) → resultOf (playing (ofNumber v) s) ≡ refusedAt (s .count + 2) s
     go Malformed = refl
     go (Value e) = refl
 
 events-fed :
     (xs p : List ℕ) (s : State) → Fit s
-    → resultOf (bytesFed xs (playing (eventLine p) s)) ≡ playFrom (s .chip .count) (eventsOf (onto p (split newline xs))) s
+    → resultOf (bytesFed xs (playing (eventLine p) s)) ≡ playFrom (s .count) (eventsOf (onto p (split newline xs))) s
 unfolding bytesFed
 events-fed [] p s fit = line-left p s fit
 events-fed (b ∷ bs) p s fit = go (eqb b newline) (split newline bs) (split-some newline bs) (λ q t f. events-fed bs q t f)
@@ -125,9 +125,9 @@ events-fed (b ∷ bs) p s fit = go (eqb b newline) (split newline bs) (split-som
     go :
         (t : Bool) (qs : List (List ℕ)) → 0 < length qs
         → ((q : List ℕ) (s′ : State) → Fit s′
-        → resultOf (bytesFed bs (playing (eventLine q) s′)) ≡ playFrom (s′ .chip .count) (eventsOf (onto q qs)) s′)
+        → resultOf (bytesFed bs (playing (eventLine q) s′)) ≡ playFrom (s′ .count) (eventsOf (onto q qs)) s′)
         → resultOf (bytesFed bs (cond t (endedLine (eventLine p) s) (playing (withByte (eventLine p) b) s)))
-        ≡ playFrom (s .chip .count) (eventsOf (onto p (cond t ([] ∷ qs) (onFirst b qs)))) s
+        ≡ playFrom (s .count) (eventsOf (onto p (cond t ([] ∷ qs) (onFirst b qs)))) s
     go t [] l h = absurd (omega arith)
     go true (q ∷ qs) l h = rw (append-nil p) (line-ended bs (eventsOf (q ∷ qs)) (λ s′ f. h [] s′ f) s fit p)
     go false (q ∷ qs) l h = rw (event-line-kept p b) (h (p ++ b ∷ []) s fit ∙ rw (append-snoc p b q))

@@ -18,7 +18,7 @@ use Rattle.capture.specs.declared.End.{End}
 use Rattle.capture.specs.declared.End.the-variants as ends
 use Rattle.capture.specs.Replay.{Replay, refusedBy, refusedAt, replayed, started}
 
--- the present line, and the chip with the two lent memories
+-- the present line, and the chip with the two lent memories and the count
 pub record Playing : Type 0 where
   pub line : LineSoFar
   pub state : State
@@ -27,10 +27,10 @@ abbrev pub playing : LineSoFar → State → Playing
 playing l s = record { line = l; state = s }
 
 abbrev pub kept : Capture → List ℕ → List ℕ → Playing
-kept c m w = playing (c .line) (state (c .chip) m w)
+kept c m w = playing (c .line) (state (c .chip) m w (c .count))
 
 abbrev pub startOf : Capture
-startOf = record { chip = resetChip 0; line = First 0 }
+startOf = record { chip = resetChip 0; count = 0; line = First 0 }
 
 -- ---- a newline
 
@@ -124,13 +124,13 @@ isOver f = isOverAt (f .refusal) (f .after .line)
 
 -- ---- the end
 
-abbrev pub endOf : LineSoFar → Chip → End
-endOf (First k) c = ends.BadFirst
-endOf (Pins p) c = ends.BadFirst
-endOf Empty c = ends.Whole c
-endOf (Number n) c = ends.Bad c
-endOf BadFirst c = ends.BadFirst
-endOf Bad c = ends.Bad c
+abbrev pub endOf : LineSoFar → Chip → ℕ → End
+endOf (First k) c n = ends.BadFirst
+endOf (Pins p) c n = ends.BadFirst
+endOf Empty c n = ends.Whole c n
+endOf (Number e) c n = ends.Bad c n
+endOf BadFirst c n = ends.BadFirst
+endOf Bad c n = ends.Bad c n
 
 abbrev pub endUnless : ℕ → End → End
 endUnless zero e = e
@@ -138,11 +138,11 @@ endUnless (suc k) e = ends.Refused (suc k)
 
 -- a line that is not ended by its newline is bad. k is the refusal of the last part, 0 being none; then 2 where what was kept is not allowed
 unfoldable pub finishOf : ℕ → Capture → End
-finishOf k c = endUnless (k then keptRefusal (c .line) (c .chip)) (endOf (c .line) (c .chip))
+finishOf k c = endUnless (k then keptRefusal (c .line) (c .chip)) (endOf (c .line) (c .chip) (c .count))
 
 -- what an end says, with the memories as they are then. The line of a bad event is count + 2, whatever the width of the count
 unfoldable pub meaning : End → List ℕ → List ℕ → Replay
 meaning (ends.Refused k) m w = refusedBy k (started 0 m w)
 meaning ends.BadFirst m w = refusedAt 1 (started 0 m w)
-meaning (ends.Bad c) m w = refusedAt (c .count + 2) (state c m w)
-meaning (ends.Whole c) m w = replayed (state c m w)
+meaning (ends.Bad c n) m w = refusedAt (n + 2) (state c m w n)
+meaning (ends.Whole c n) m w = replayed (state c m w n)

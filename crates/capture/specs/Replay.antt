@@ -22,7 +22,7 @@ pub data Replay : Type 0 where
 
 -- reset values, idle, count 0
 abbrev pub started : ℕ → List ℕ → List ℕ → State
-started pins m w = state (resetChip pins) m w
+started pins m w = state (resetChip pins) m w 0
 
 -- the run over the events was stopped by a refusal or not, and no bad line follows them or one does. The first event stands in line 2
 abbrev pub endedBy : ℕ → Bool → ℕ → State → Replay

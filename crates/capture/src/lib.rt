@@ -7,10 +7,11 @@ use registers::Chip;
 pub mod play;
 pub mod refusal;
 
-// The chip after the events so far, whose count says how many they were, and the present line. Before the end of the first line the
-// pins are not known, and the chip stands with pins 0.
+// The chip after the events so far, how many they were, and the present line. Before the end of the first line the pins are not known,
+// and the chip stands with pins 0.
 pub struct Capture {
     pub chip: Chip,
+    pub count: u64,
     pub line: LineSoFar,
 }
 
@@ -20,14 +21,14 @@ pub struct Fed {
     pub capture: Capture,
 }
 
-// What a capture comes to. A bad event line is the line after the chip's count of events and the first line: count + 2, a number that
-// need not fit 64 bits.
+// What a capture comes to, with the chip and the count of its events. A bad event line is the line after those and the first line:
+// count + 2, a number that need not fit 64 bits.
 pub enum End {
     // No replay: 1, a lent memory isn't 1,717 long; 2, what was kept is not allowed.
     Refused(u8),
     BadFirst,
-    Bad(Chip),
-    Whole(Chip),
+    Bad(Chip, u64),
+    Whole(Chip, u64),
 }
 
 // Before the first byte.
@@ -36,6 +37,7 @@ pub fn start() -> Capture
 {
     Capture {
         chip: Chip::reset(0),
+        count: 0,
         line: LineSoFar::First(0),
     }
 }
@@ -46,6 +48,7 @@ fn feed_bytes(capture: Capture, memory: &mut [u8], writers: &mut [u64], part: &[
         ≡ bytesFed (now (part .entry)) (kept capture (now (memory .entry)) (now (writers .entry))) ⌝ }
 {
     let mut chip = capture.chip;
+    let mut count = capture.count;
     let mut line = capture.line;
     let mut at = 0;
     while at < part.len() {
@@ -53,13 +56,14 @@ fn feed_bytes(capture: Capture, memory: &mut [u8], writers: &mut [u64], part: &[
         line = scanned.line;
         at = scanned.at;
         if at < part.len() {
-            let ended = play::end_line(chip, line, memory, writers);
+            let ended = play::end_line(chip, count, line, memory, writers);
             chip = ended.chip;
+            count = ended.count;
             line = ended.line;
             at += 1;
         }
     }
-    Capture { chip, line }
+    Capture { chip, count, line }
 }
 
 // The next bytes, any number of them. The memories are those that the events write; at the start of a capture they are lent as zeros.
@@ -81,16 +85,16 @@ pub fn feed(capture: Capture, memory: &mut [u8], writers: &mut [u64], part: &[u8
     }
 }
 
-fn end_of(line: LineSoFar, chip: Chip) -> End
-    ensures { λ r. ⌜ r ≡ endOf line chip ⌝ }
+fn end_of(line: LineSoFar, chip: Chip, count: u64) -> End
+    ensures { λ r. ⌜ r ≡ endOf line chip count ⌝ }
 {
     match line {
         LineSoFar::First(_) => End::BadFirst,
         LineSoFar::Pins(_) => End::BadFirst,
-        LineSoFar::Empty => End::Whole(chip),
-        LineSoFar::Number(_) => End::Bad(chip),
+        LineSoFar::Empty => End::Whole(chip, count),
+        LineSoFar::Number(_) => End::Bad(chip, count),
         LineSoFar::BadFirst => End::BadFirst,
-        LineSoFar::Bad => End::Bad(chip),
+        LineSoFar::Bad => End::Bad(chip, count),
     }
 }
 
@@ -110,7 +114,7 @@ pub fn finish(fed: Fed) -> End
     if refused != 0 {
         return End::Refused(refused);
     }
-    end_of(line, chip)
+    end_of(line, chip, capture.count)
 }
 
 // Whether nothing that follows changes what the capture comes to: a part was refused by a number, or a line.

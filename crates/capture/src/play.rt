@@ -18,43 +18,55 @@ fn line_after(refusal: u8) -> LineSoFar
     LineSoFar::Bad
 }
 
-fn play(event: u16, chip: Chip, memory: &mut [u8], writers: &mut [u64]) -> Capture
+fn play(event: u16, chip: Chip, count: u64, memory: &mut [u8], writers: &mut [u64]) -> Capture
     ensures { λ r. ⌜ kept r (now (memory .exit)) (now (writers .exit))
-        ≡ played (runOf (event ∷ []) (state chip (now (memory .entry)) (now (writers .entry)))) ⌝ }
+        ≡ played (runOf (event ∷ []) (state chip (now (memory .entry)) (now (writers .entry)) count)) ⌝ }
 {
     let events = [event];
-    let ran = engine::run::run(chip, memory, writers, &events);
+    let ran = engine::run::run(chip, count, memory, writers, &events);
     let after = ran.chip;
     Capture {
         chip: after,
+        count: ran.count,
         line: line_after(ran.refusal),
     }
 }
 
-pub fn end_line(chip: Chip, line: LineSoFar, memory: &mut [u8], writers: &mut [u64]) -> Capture
+pub fn end_line(
+    chip: Chip,
+    count: u64,
+    line: LineSoFar,
+    memory: &mut [u8],
+    writers: &mut [u64],
+) -> Capture
     ensures { λ r. ⌜ kept r (now (memory .exit)) (now (writers .exit))
-        ≡ endedLine line (state chip (now (memory .entry)) (now (writers .entry))) ⌝ }
+        ≡ endedLine line (state chip (now (memory .entry)) (now (writers .entry)) count) ⌝ }
 {
     match line {
         LineSoFar::First(_) => Capture {
             chip,
+            count,
             line: LineSoFar::BadFirst,
         },
         LineSoFar::Pins(pins) => Capture {
             chip: Chip::reset(pins),
+            count: 0,
             line: LineSoFar::Empty,
         },
         LineSoFar::Empty => Capture {
             chip,
+            count,
             line: LineSoFar::Bad,
         },
-        LineSoFar::Number(event) => play(event, chip, memory, writers),
+        LineSoFar::Number(event) => play(event, chip, count, memory, writers),
         LineSoFar::BadFirst => Capture {
             chip,
+            count,
             line: LineSoFar::BadFirst,
         },
         LineSoFar::Bad => Capture {
             chip,
+            count,
             line: LineSoFar::Bad,
         },
     }

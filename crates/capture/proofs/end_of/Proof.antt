@@ -23,22 +23,22 @@ enum-told-6 : tie.Need-enum-told-6
 enum-told-6 c = search needs
 
 returns : tie.Need-returns
-returns c = end-known _ _ (c .enum-told .given .1) _ _ refl
+returns c = end-known _ _ (c .enum-told .given .1) _ _ _ refl
 
 returns-2 : tie.Need-returns-2
-returns-2 c = end-known _ _ (c .enum-told2 .given .1) _ _ refl
+returns-2 c = end-known _ _ (c .enum-told2 .given .1) _ _ _ refl
 
 returns-3 : tie.Need-returns-3
-returns-3 c = end-known _ _ (c .enum-told3 .given .1) _ _ refl
+returns-3 c = end-known _ _ (c .enum-told3 .given .1) _ _ _ refl
 
 returns-4 : tie.Need-returns-4
-returns-4 c = end-known _ _ (c .enum-told4 .given .1) _ _ refl
+returns-4 c = end-known _ _ (c .enum-told4 .given .1) _ _ _ refl
 
 returns-5 : tie.Need-returns-5
-returns-5 c = end-known _ _ (c .enum-told5 .given .1) _ _ refl
+returns-5 c = end-known _ _ (c .enum-told5 .given .1) _ _ _ refl
 
 returns-6 : tie.Need-returns-6
-returns-6 c = end-known _ _ (c .enum-told6 .given .1) _ _ refl
+returns-6 c = end-known _ _ (c .enum-told6 .given .1) _ _ _ refl
 
 pub end-of-spec : {M : Type 1} → statement M
 end-of-spec =

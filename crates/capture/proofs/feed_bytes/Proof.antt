@@ -10,14 +10,14 @@ use Rattle.capture.proofs.feed_bytes.Statement.{statement}
 use Rattle.capture.proofs.feed_bytes.Tie as tie
 
 abbrev Inv-loop : tie.InvT-loop
-Inv-loop memory₀ writers₀ part chip₀ line₀ at₀ memory writers chip line at =
+Inv-loop memory₀ writers₀ part chip₀ count₀ line₀ at₀ memory writers chip count line at =
     (at ≤ length part)
     × (length memory ≡ length memory₀)
     × (length writers ≡ length writers₀)
-    × (bytesFed (drop at part) (playing line (state chip memory writers)) ≡ bytesFed part (playing line₀ (state chip₀ memory₀ writers₀)))
+    × (bytesFed (drop at part) (playing line (state chip memory writers count)) ≡ bytesFed part (playing line₀ (state chip₀ memory₀ writers₀ count₀)))
 
 abbrev μ-loop : tie.MeasureT-loop
-μ-loop memory₀ writers₀ part chip₀ line₀ at₀ memory writers chip line at = length part - at
+μ-loop memory₀ writers₀ part chip₀ count₀ line₀ at₀ memory writers chip count line at = length part - at
 
 loop-holds : tie.Need-loop-holds Inv-loop μ-loop
 loop-holds c = (search needs, refl, refl, refl)
@@ -49,8 +49,8 @@ loop-again c =
     let part = test .before .before .before .before .before .before .before .before .args .part .now in
     let scan = scanned part (head .at) _ _ (test .before .scan .ensures) (head .inv .0) in (
       search needs,
-      ended .kept .1 .1 .0 ∙ head .inv .1,
-      ended .kept .1 .1 .1 .0 ∙ head .inv .2,
+      ended .kept .1 .1 .1 .0 ∙ head .inv .1,
+      ended .kept .1 .1 .1 .1 .0 ∙ head .inv .2,
       line-ends _ _ _ _ _ (test .if1 .taken) (scan .stops (test .if1 .taken)) (ended .ensures) ∙ sym (scan .leaves _) ∙ head .inv .3,
     )
 
