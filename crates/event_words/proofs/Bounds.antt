@@ -245,13 +245,13 @@ line-length a b c d = simp length-append (omega arith)
 
 -- twenty digits of number, three of event, 31 bytes of words, 16 of answer, three tabs and the newline
 pub event-line-bound :
-    (e : ℕ) (c : Chip) (a : Answer) → e < 1000 → c .count < 2 ^ 64 → allowedRegisters (c .registers) ≡ true → ShortAnswer a
-    → length (eventLine e c a) ≤ 74
-event-line-bound e c a he hc ok ha =
+    (e : ℕ) (c : Chip) (n : ℕ) (a : Answer) → e < 1000 → n < 2 ^ 64 → allowedRegisters (c .registers) ≡ true → ShortAnswer a
+    → length (eventLine e c n a) ≤ 74
+event-line-bound e c n a he hn ok ha =
     omega (
       arith,
-      line-length (decimalOf (c .count + 1)) (decimalOf e) (whatOf e c) (answerWords a),
-      decimal-bound 19 (c .count + 1) (omega (arith, hc)),
+      line-length (decimalOf (n + 1)) (decimalOf e) (whatOf e c) (answerWords a),
+      decimal-bound 19 (n + 1) (omega (arith, hn)),
       decimal-bound 2 e (omega arith),
       words-bound (eventOf e) c (short-registers (c .registers) ok) (short-event e),
       answer-bound a ha,

@@ -7,6 +7,6 @@ use Rattle.print.specs.Printed.{decimalOf}
 use Rattle.engine.specs.declared.answer.Answer.{Answer}
 use Rattle.event_words.specs.Words.{whatOf, answerWords}
 
--- c is the chip before the event, whose count the event's number follows
-abbrev pub eventLine : ℕ → Chip → Answer → List ℕ
-eventLine e c a = line (decimalOf (c .count + 1) ∷ decimalOf e ∷ whatOf e c ∷ answerWords a ∷ [])
+-- c is the chip before the event, and n the count, which the event's number follows
+abbrev pub eventLine : ℕ → Chip → ℕ → Answer → List ℕ
+eventLine e c n a = line (decimalOf (n + 1) ∷ decimalOf e ∷ whatOf e c ∷ answerWords a ∷ [])

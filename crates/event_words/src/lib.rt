@@ -76,11 +76,18 @@ pub fn answer(answer: Answer, out: &mut [u8], at: usize) -> usize
     }
 }
 
-// The whole line. The chip is the one before the event, whose count the event's number follows; it may be past the largest u64.
-pub fn line(event: u16, chip: Chip, given: Answer, out: &mut [u8], at: usize) -> usize
-    ensures { λ r. ⌜ Wrote (now (out .entry)) at (eventLine event chip given) (now (out .exit)) r ⌝ }
+// The whole line. Chip and count are those before the event, and its number follows the count; it may be past the largest u64.
+pub fn line(
+    event: u16,
+    chip: Chip,
+    count: u64,
+    given: Answer,
+    out: &mut [u8],
+    at: usize,
+) -> usize
+    ensures { λ r. ⌜ Wrote (now (out .entry)) at (eventLine event chip count given) (now (out .exit)) r ⌝ }
 {
-    let number = print::decimal_plus(chip.count, 1, out, at);
+    let number = print::decimal_plus(count, 1, out, at);
     let after_number = print::byte(TAB, out, number);
     let after_event = print::field(event as u64, TAB, out, after_number);
     let words = what(event, chip, out, after_event);

@@ -37,7 +37,7 @@ returns c =
     let byte = field .before .before .before .before in
     let decimal-plus = byte .before .before .before .before in
     let start = decimal-plus .before .before .before in
-    line-wrote _ _ _ _ (omega (arith, start .good .1 .1 .1 .0)) (decimal-plus .decimal-plus .ensures) (byte .byte .ensures) (field .field .ensures) (what .what .ensures) (byte2 .byte2 .ensures) (answer .answer .ensures) (c .before .before .byte3 .ensures)
+    line-wrote _ _ _ _ (omega (arith, start .good .1 .1 .1 .1 .0)) (decimal-plus .decimal-plus .ensures) (byte .byte .ensures) (field .field .ensures) (what .what .ensures) (byte2 .byte2 .ensures) (answer .answer .ensures) (c .before .before .byte3 .ensures)
 
 pub line-spec : {M : Type 1} → statement M
 line-spec =
