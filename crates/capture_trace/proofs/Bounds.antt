@@ -38,7 +38,7 @@ use Rattle.capture_trace.proofs.CodeWays.{told-append, done-number}
 
 pub record Sized (s : State) : Type 0 where
   pub status : s .chip .status < 256
-  pub count : s .chip .count < 2 ^ 64
+  pub count : s .count < 2 ^ 64
 
 -- a status byte is read, or 255
 read-short : (t : Bool) (n : ℕ) → n < 256 → cond t n 255 < 256
@@ -54,8 +54,8 @@ unfolding acknowledge
 acknowledge-short true = tt
 acknowledge-short false = tt
 
-module _ (number : ℕ) (s : State) (small : s .chip .status < 256) where
-  byte-answer : (p : Phase) (b : ℕ) → ShortAnswer (onByte p b number s .answer)
+module _ (s : State) (small : s .chip .status < 256) where
+  byte-answer : (p : Phase) (b : ℕ) → ShortAnswer (onByte p b s .answer)
   byte-answer Idle b = tt
   byte-answer AddressAwaited b = acknowledge-short _
   byte-answer Ignoring b = tt
@@ -67,7 +67,7 @@ module _ (number : ℕ) (s : State) (small : s .chip .status < 256) where
   byte-answer Reading b = tt
   byte-answer ReadEnded b = tt
 
-  event-answer : (v : Event) → ShortAnswer (applied v number s .answer)
+  event-answer : (v : Event) → ShortAnswer (applied v s .answer)
   unfolding applied readByte
   event-answer (Byte b) = byte-answer (s .chip .phase) b
   event-answer Start = tt
@@ -78,7 +78,7 @@ module _ (number : ℕ) (s : State) (small : s .chip .status < 256) where
   event-answer (Sensor n) = tt
   event-answer Unlisted = tt
 
-  byte-status : (p : Phase) (b : ℕ) → onByte p b number s .state .chip .status < 256
+  byte-status : (p : Phase) (b : ℕ) → onByte p b s .state .chip .status < 256
   unfolding controlled
   byte-status Idle b = small
   byte-status AddressAwaited b = small
@@ -91,7 +91,7 @@ module _ (number : ℕ) (s : State) (small : s .chip .status < 256) where
   byte-status Reading b = small
   byte-status ReadEnded b = small
 
-  event-status : (v : Event) → ShortEvent v → applied v number s .state .chip .status < 256
+  event-status : (v : Event) → ShortEvent v → applied v s .state .chip .status < 256
   unfolding applied pulsed sensed
   event-status (Byte b) h = byte-status (s .chip .phase) b
   event-status Start h = small
@@ -109,17 +109,17 @@ module _ (e : ℕ) (s : State) (done : refusalOf e s ≡ 0) (sized : Sized s) wh
   listed-short = ⊎-elim (λ h. omega (arith, h)) (λ h. omega (arith, h .1))
 
   answered : ShortAnswer (accepted e s .answer)
-  unfolding accepted counted
-  answered = event-answer _ _ (sized .status) (eventOf e)
+  unfolding accepted
+  answered = event-answer (counted s) (sized .status) (eventOf e)
 
   held : accepted e s .state .chip .status < 256
-  unfolding accepted counted
-  held = event-status _ _ (sized .status) (eventOf e) (short-event e)
+  unfolding accepted
+  held = event-status (counted s) (sized .status) (eventOf e) (short-event e)
 
   line-bound : length (lineFor (doneEvent e s)) ≤ 74
   line-bound =
       let passed = exactly-when e s 0 .0 done in
-      event-line-bound e (s .chip) (stepOf e s .answer) (listed-short (passed .1)) (sized .count)
+      event-line-bound e (s .chip) (s .count) (stepOf e s .answer) (listed-short (passed .1)) (sized .count)
       (allowed-registers (s .chip) (passed .0 .is-allowed))
       (subst (λ (a : After). ShortAnswer (a .answer)) (sym (accepted-step e s done)) answered)
 

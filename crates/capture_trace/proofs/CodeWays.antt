@@ -37,9 +37,9 @@ pub tallied-known : (known : Answer) {a : Answer} (t : Tally) {r : Tally} → a 
 tallied-known known t e h = h ∙ ap (λ (x : Answer). tallied x t) (sym e)
 
 pub told-known :
-    (known : Bool) {t : Bool} (e : ℕ) (c : Chip) (a : Answer) {l m : List ℕ} {i j : ℕ} → t ≡ known → Wrote l i (toldLine known e c a) m j
-    → Wrote l i (toldLine t e c a) m j
-told-known known e c a h w = wrote-same (ap (λ (b : Bool). toldLine b e c a) (sym h)) w
+    (known : Bool) {t : Bool} (e : ℕ) (c : Chip) (n : ℕ) (a : Answer) {l m : List ℕ} {i j : ℕ} → t ≡ known → Wrote l i (toldLine known e c n a) m j
+    → Wrote l i (toldLine t e c n a) m j
+told-known known e c n a h w = wrote-same (ap (λ (b : Bool). toldLine b e c n a) (sym h)) w
 
 -- ---- one event: a is what the step gave. A refused event leaves the count as it was
 
@@ -55,15 +55,15 @@ module _ (e : ℕ) (s : State) where
 
   module _ (a : After) (is : a ≡ stepOf e s) where
     pub not-counted :
-        a .state .chip .count ≡ s .chip .count → (playing Bad (a .state) ≡ endedLine (Number e) s) × (doneAtEnd (Number e) s ≡ [])
+        a .state .count ≡ s .count → (playing Bad (a .state) ≡ endedLine (Number e) s) × (doneAtEnd (Number e) s ≡ [])
     not-counted same = go (refusalOf e s) refl
       where
         go : (k : ℕ) → refusalOf e s ≡ k → (playing Bad (a .state) ≡ endedLine (Number e) s) × (doneAtEnd (Number e) s ≡ [])
-        go zero h = absurd (omega (arith, count-law e s h, ap (λ (x : After). x .state .chip .count) is, same))
+        go zero h = absurd (omega (arith, count-law e s h, ap (λ (x : After). x .state .count) is, same))
         go (suc k) h = (ap (λ (x : After). playing Bad (x .state)) is ∙ ended-number (suc k) h, done-number (suc k) h)
 
     pub is-counted :
-        (a .state .chip .count ≡ s .chip .count → ⊥)
+        (a .state .count ≡ s .count → ⊥)
         → (playing Empty (a .state) ≡ endedLine (Number e) s) × (doneAtEnd (Number e) s ≡ doneEvent e s ∷ [])
     is-counted other = go (refusalOf e s) refl
       where
@@ -71,7 +71,7 @@ module _ (e : ℕ) (s : State) where
             (k : ℕ) → refusalOf e s ≡ k
             → (playing Empty (a .state) ≡ endedLine (Number e) s) × (doneAtEnd (Number e) s ≡ doneEvent e s ∷ [])
         go zero h = (ap (λ (x : After). playing Empty (x .state)) is ∙ ended-number 0 h, done-number 0 h)
-        go (suc k) h = absurd (other (ap (λ (x : After). x .state .chip .count) (is ∙ refused e s k h)))
+        go (suc k) h = absurd (other (ap (λ (x : After). x .state .count) (is ∙ refused e s k h)))
 
 -- none done: nothing is tallied, and nothing told
 pub none-tallied : {ds : List DoneEvent} (t : Tally) → ds ≡ [] → t ≡ talliedOver ds t
@@ -95,12 +95,12 @@ module _ (e : ℕ) (s : State) (a : After) (is : a ≡ stepOf e s) {ds : List Do
   one-tallied t r h = h ∙ ap (λ (x : After). tallied (x .answer) t) is ∙ ap (λ (xs : List DoneEvent). talliedOver xs t) (sym one)
 
   pub one-told :
-      (told : Bool) {l m : List ℕ} {i j : ℕ} → Wrote l i (toldLine told e (s .chip) (a .answer)) m j → Wrote l i (toldLines told ds) m j
+      (told : Bool) {l m : List ℕ} {i j : ℕ} → Wrote l i (toldLine told e (s .chip) (s .count) (a .answer)) m j → Wrote l i (toldLines told ds) m j
   one-told told w =
       wrote-same (go told ∙ ap (toldLines told) (sym one)) w
     where
-      go : (b : Bool) → toldLine b e (s .chip) (a .answer) ≡ toldLines b (doneEvent e s ∷ [])
-      go true = ap (λ (x : After). eventLine e (s .chip) (x .answer)) is ∙ sym (append-nil (lineFor (doneEvent e s)))
+      go : (b : Bool) → toldLine b e (s .chip) (s .count) (a .answer) ≡ toldLines b (doneEvent e s ∷ [])
+      go true = ap (λ (x : After). eventLine e (s .chip) (s .count) (x .answer)) is ∙ sym (append-nil (lineFor (doneEvent e s)))
       go false = refl
 
 -- ---- a newline behind a line of a known kind

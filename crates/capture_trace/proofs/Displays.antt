@@ -67,5 +67,5 @@ told b s byte t h =
           ∙ data-said (s .chip .phase) r b t
           ∙ ap (λ (n : ℕ). bytes "display " ++ (decimalOf (columnOf r) ++ 32 ∷ (decimalOf (r .y) ++ 32 ∷ decimalOf n)))
           (sym (ap (λ (a : After). getD (a .state .memory) (placeOf r) 0) law ∙ getD-set-same (s .memory) (placeOf r) (storedOf r b) 0 in-memory));
-      writer = ap (λ (a : After). getD (a .state .writers) (placeOf r) 0) law ∙ getD-set-same (s .writers) (placeOf r) (s .chip .count + 1) 0 in-writers;
+      writer = ap (λ (a : After). getD (a .state .writers) (placeOf r) 0) law ∙ getD-set-same (s .writers) (placeOf r) (s .count + 1) 0 in-writers;
     }

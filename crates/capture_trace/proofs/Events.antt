@@ -74,8 +74,8 @@ follows (e ∷ es) s end done =
         told zero l d = refl
         told (suc i) l d = rest .each i (le-of-suc-le-suc l) d
 
-        counted : (i : ℕ) → i < length (e ∷ es) → before (e ∷ es) i s .chip .count ≡ s .chip .count + i
-        counted zero l = sym (add-zero (s .chip .count))
+        counted : (i : ℕ) → i < length (e ∷ es) → before (e ∷ es) i s .count ≡ s .count + i
+        counted zero l = sym (add-zero (s .count))
         counted (suc i) l = omega (arith, rest .numbered i (le-of-suc-le-suc l), count-law e s h)
 
     subst-follows : {ds fs : List DoneEvent} → ds ≡ fs → Follows (e ∷ es) s ds → Follows (e ∷ es) s fs

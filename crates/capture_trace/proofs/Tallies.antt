@@ -1,4 +1,4 @@
--- The tally of a capture is a count over its events: no number reaches the end of a machine word, since the chip's count would first.
+-- The tally of a capture is a count over its events: no number reaches the end of a machine word, since the count would first.
 use mathlib.Core.Bool.{Bool, cond}
 use mathlib.Core.List.{List, [], _∷_}
 use mathlib.Core.Path.{_≡_, refl, ap, _∙_}
@@ -56,7 +56,7 @@ tallied-all (d ∷ ds) n m h =
     ∙ same-tally (omega arith) (omega arith)
 
 -- as many events as there is room for in the count
-room : (es : List ℕ) (s : State) → s .chip .count ≤ 2 ^ 64 - 1 → s .chip .count + length (doneEvents es s) ≤ 2 ^ 64 - 1
+room : (es : List ℕ) (s : State) → s .count ≤ 2 ^ 64 - 1 → s .count + length (doneEvents es s) ≤ 2 ^ 64 - 1
 unfolding doneEvents
 room [] s h = omega arith
 room (e ∷ es) s h = go (refusalOf e s) refl (λ r. room es (stepOf e s .state) r)
@@ -65,16 +65,16 @@ room (e ∷ es) s h = go (refusalOf e s) refl (λ r. room es (stepOf e s .state)
     next = stepOf e s .state
 
     go :
-        (k : ℕ) → refusalOf e s ≡ k → (next .chip .count ≤ 2 ^ 64 - 1 → next .chip .count + length (doneEvents es next) ≤ 2 ^ 64 - 1)
-        → s .chip .count + length (doneUnless k (doneEvent e s ∷ doneEvents es (stepOf e s .state))) ≤ 2 ^ 64 - 1
+        (k : ℕ) → refusalOf e s ≡ k → (next .count ≤ 2 ^ 64 - 1 → next .count + length (doneEvents es next) ≤ 2 ^ 64 - 1)
+        → s .count + length (doneUnless k (doneEvent e s ∷ doneEvents es (stepOf e s .state))) ≤ 2 ^ 64 - 1
     go zero q rest =
-        let below : s .chip .count < 2 ^ 64 - 1 = omega (arith, exactly-when e s 0 .0 q .2) in
+        let below : s .count < 2 ^ 64 - 1 = omega (arith, exactly-when e s 0 .0 q .2) in
         omega (arith, rest (omega (arith, count-law e s q)), count-law e s q)
     go (suc k) q rest = omega arith
 
 -- so from a count of 0 on the tally counts them
 pub tally-counts :
-    (es : List ℕ) (s : State) → s .chip .count ≡ 0
+    (es : List ℕ) (s : State) → s .count ≡ 0
     → talliedOver (doneEvents es s) noneTallied ≡ tally (howMany isAcknowledged (doneEvents es s)) (howMany isNotAcknowledged (doneEvents es s))
 tally-counts es s none =
     tallied-all (doneEvents es s) 0 0 (omega (arith, room es s (omega (arith, none)), none)) ∙ same-tally (omega arith) (omega arith)

@@ -16,12 +16,12 @@ abbrev pub answerTo : DoneEvent → Answer
 answerTo d = stepOf (d .event) (d .before) .answer
 
 abbrev pub lineFor : DoneEvent → List ℕ
-lineFor d = eventLine (d .event) (d .before .chip) (answerTo d)
+lineFor d = eventLine (d .event) (d .before .chip) (d .before .count) (answerTo d)
 
 -- the lines, where they are asked for
-abbrev pub toldLine : Bool → ℕ → Chip → Answer → List ℕ
-toldLine true e c a = eventLine e c a
-toldLine false e c a = []
+abbrev pub toldLine : Bool → ℕ → Chip → ℕ → Answer → List ℕ
+toldLine true e c n a = eventLine e c n a
+toldLine false e c n a = []
 
 abbrev pub toldLines : Bool → List DoneEvent → List ℕ
 toldLines true ds = linesOf lineFor ds

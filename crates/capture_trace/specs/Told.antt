@@ -54,12 +54,12 @@ pub record DisplayTold (b : ℕ) (s : State) : Type 0 where
       whatOf b (s .chip)
       ≡ bytes "display "
       ++ (decimalOf column ++ 32 ∷ (decimalOf bank ++ 32 ∷ decimalOf (getD (stepOf b s .state .memory) (101 * bank + column) 0)))
-  pub writer : getD (stepOf b s .state .writers) (101 * bank + column) 0 ≡ s .chip .count + 1
+  pub writer : getD (stepOf b s .state .writers) (101 * bank + column) 0 ≡ s .count + 1
 
 -- ---- which events were done
 
--- the events es from s, each once and in order. Event i, from 0, is told of the chip as those before it left it, whose count is the starting one and i
+-- the events es from s, each once and in order. Event i, from 0, is told of the chip as those before it left it, and of the count, which is the starting one and i
 pub record Follows (es : List ℕ) (s : State) (ds : List DoneEvent) : Type 0 where
   pub as-many : length ds ≡ length es
   pub each : (i : ℕ) → i < length es → (d : DoneEvent) → getD ds i d ≡ doneEvent (getD es i 0) (before es i s)
-  pub numbered : (i : ℕ) → i < length es → before es i s .chip .count ≡ s .chip .count + i
+  pub numbered : (i : ℕ) → i < length es → before es i s .count ≡ s .count + i

@@ -15,21 +15,30 @@ use registers::Chip;
 // Where a capture stands, with what was made of it so far.
 pub struct Course {
     pub chip: Chip,
+    pub count: u64,
     pub line: LineSoFar,
     pub tally: Tally,
     pub length: usize,
 }
 
-fn tell(told: bool, event: u16, chip: Chip, answer: Answer, out: &mut [u8], at: usize) -> usize
-    ensures { λ r. ⌜ Wrote (now (out .entry)) at (toldLine told event chip answer) (now (out .exit)) r ⌝ }
+fn tell(
+    told: bool,
+    event: u16,
+    chip: Chip,
+    count: u64,
+    answer: Answer,
+    out: &mut [u8],
+    at: usize,
+) -> usize
+    ensures { λ r. ⌜ Wrote (now (out .entry)) at (toldLine told event chip count answer) (now (out .exit)) r ⌝ }
 {
     if told {
-        return event_words::line(event, chip, answer, out, at);
+        return event_words::line(event, chip, count, answer, out, at);
     }
     at
 }
 
-// One event. A refused one is not counted, and so the chip's count tells.
+// One event. A refused one is not counted, and so the count tells.
 fn play(
     event: u16,
     course: Course,
@@ -38,29 +47,32 @@ fn play(
     writers: &mut [u64],
     out: &mut [u8],
 ) -> Course
-    ensures { λ r. ⌜ playing (r .line) (state (r .chip) (now (memory .exit)) (now (writers .exit)))
-        ≡ endedLine (Number event) (state (course .chip) (now (memory .entry)) (now (writers .entry))) ⌝ }
+    ensures { λ r. ⌜ playing (r .line) (state (r .chip) (now (memory .exit)) (now (writers .exit)) (r .count))
+        ≡ endedLine (Number event) (state (course .chip) (now (memory .entry)) (now (writers .entry)) (course .count)) ⌝ }
     ensures { λ r. ⌜ r .tally
-        ≡ talliedOver (doneAtEnd (Number event) (state (course .chip) (now (memory .entry)) (now (writers .entry)))) (course .tally) ⌝ }
+        ≡ talliedOver (doneAtEnd (Number event) (state (course .chip) (now (memory .entry)) (now (writers .entry)) (course .count))) (course .tally) ⌝ }
     ensures { λ r. ⌜ Wrote (now (out .entry)) (course .length)
-        (toldLines told (doneAtEnd (Number event) (state (course .chip) (now (memory .entry)) (now (writers .entry))))) (now (out .exit)) (r .length) ⌝ }
+        (toldLines told (doneAtEnd (Number event) (state (course .chip) (now (memory .entry)) (now (writers .entry)) (course .count)))) (now (out .exit)) (r .length) ⌝ }
 {
     let before = course.chip;
     let tally = course.tally;
-    let stepped = engine::step::step(event, before, memory, writers);
+    let count = course.count;
+    let stepped = engine::step::step(event, before, count, memory, writers);
     let answer = stepped.answer;
     let after = stepped.chip;
-    if after.count == before.count {
+    if stepped.count == count {
         return Course {
             chip: after,
+            count: stepped.count,
             line: LineSoFar::Bad,
             tally,
             length: course.length,
         };
     }
-    let length = tell(told, event, before, answer, out, course.length);
+    let length = tell(told, event, before, count, answer, out, course.length);
     Course {
         chip: after,
+        count: stepped.count,
         line: LineSoFar::Empty,
         tally: tally.with(answer),
         length,
@@ -69,19 +81,20 @@ fn play(
 
 // A line that is no event's, as `capture` ends it.
 fn pass(course: Course, memory: &mut [u8], writers: &mut [u64]) -> Course
-    ensures { λ r. ⌜ playing (r .line) (state (r .chip) (now (memory .exit)) (now (writers .exit)))
-        ≡ endedLine (course .line) (state (course .chip) (now (memory .entry)) (now (writers .entry))) ⌝ }
+    ensures { λ r. ⌜ playing (r .line) (state (r .chip) (now (memory .exit)) (now (writers .exit)) (r .count))
+        ≡ endedLine (course .line) (state (course .chip) (now (memory .entry)) (now (writers .entry)) (course .count)) ⌝ }
     ensures { λ r. ⌜ r .tally ≡ course .tally ⌝ }
     ensures { λ r. ⌜ r .length ≡ course .length ⌝ }
 {
     let chip = course.chip;
     let line = course.line;
     let tally = course.tally;
-    let ended = capture::play::end_line(chip, line, memory, writers);
+    let ended = capture::play::end_line(chip, course.count, line, memory, writers);
     let after = ended.chip;
     let next = ended.line;
     Course {
         chip: after,
+        count: ended.count,
         line: next,
         tally,
         length: course.length,
@@ -95,12 +108,12 @@ pub fn end_line(
     writers: &mut [u64],
     out: &mut [u8],
 ) -> Course
-    ensures { λ r. ⌜ playing (r .line) (state (r .chip) (now (memory .exit)) (now (writers .exit)))
-        ≡ endedLine (course .line) (state (course .chip) (now (memory .entry)) (now (writers .entry))) ⌝ }
+    ensures { λ r. ⌜ playing (r .line) (state (r .chip) (now (memory .exit)) (now (writers .exit)) (r .count))
+        ≡ endedLine (course .line) (state (course .chip) (now (memory .entry)) (now (writers .entry)) (course .count)) ⌝ }
     ensures { λ r. ⌜ r .tally
-        ≡ talliedOver (doneAtEnd (course .line) (state (course .chip) (now (memory .entry)) (now (writers .entry)))) (course .tally) ⌝ }
+        ≡ talliedOver (doneAtEnd (course .line) (state (course .chip) (now (memory .entry)) (now (writers .entry)) (course .count))) (course .tally) ⌝ }
     ensures { λ r. ⌜ Wrote (now (out .entry)) (course .length)
-        (toldLines told (doneAtEnd (course .line) (state (course .chip) (now (memory .entry)) (now (writers .entry))))) (now (out .exit)) (r .length) ⌝ }
+        (toldLines told (doneAtEnd (course .line) (state (course .chip) (now (memory .entry)) (now (writers .entry)) (course .count)))) (now (out .exit)) (r .length) ⌝ }
 {
     let line = course.line;
     let LineSoFar::Number(event) = line else {

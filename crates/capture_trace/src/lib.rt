@@ -31,14 +31,15 @@ fn follow_bytes(
     part: &[u8],
     out: &mut [u8],
 ) -> Course
-    ensures { λ r. ⌜ playing (r .line) (state (r .chip) (now (memory .exit)) (now (writers .exit)))
-        ≡ bytesFed (now (part .entry)) (playing (course .line) (state (course .chip) (now (memory .entry)) (now (writers .entry)))) ⌝ }
+    ensures { λ r. ⌜ playing (r .line) (state (r .chip) (now (memory .exit)) (now (writers .exit)) (r .count))
+        ≡ bytesFed (now (part .entry)) (playing (course .line) (state (course .chip) (now (memory .entry)) (now (writers .entry)) (course .count))) ⌝ }
     ensures { λ r. ⌜ r .tally ≡ talliedOver (doneInBytes (now (part .entry))
-        (playing (course .line) (state (course .chip) (now (memory .entry)) (now (writers .entry))))) (course .tally) ⌝ }
+        (playing (course .line) (state (course .chip) (now (memory .entry)) (now (writers .entry)) (course .count)))) (course .tally) ⌝ }
     ensures { λ r. ⌜ Wrote (now (out .entry)) (course .length) (toldLines told (doneInBytes (now (part .entry))
-        (playing (course .line) (state (course .chip) (now (memory .entry)) (now (writers .entry)))))) (now (out .exit)) (r .length) ⌝ }
+        (playing (course .line) (state (course .chip) (now (memory .entry)) (now (writers .entry)) (course .count))))) (now (out .exit)) (r .length) ⌝ }
 {
     let mut chip = course.chip;
+    let mut count = course.count;
     let mut line = course.line;
     let mut tally = course.tally;
     let mut length = course.length;
@@ -50,12 +51,14 @@ fn follow_bytes(
         if at < part.len() {
             let begun = Course {
                 chip,
+                count,
                 line,
                 tally,
                 length,
             };
             let ended = end_line(begun, told, memory, writers, out);
             chip = ended.chip;
+            count = ended.count;
             line = ended.line;
             tally = ended.tally;
             length = ended.length;
@@ -64,6 +67,7 @@ fn follow_bytes(
     }
     Course {
         chip,
+        count,
         line,
         tally,
         length,
@@ -104,6 +108,7 @@ pub fn follow(
     let line = capture.line;
     let start = Course {
         chip,
+        count: capture.count,
         line,
         tally,
         length: 0,
@@ -117,6 +122,7 @@ pub fn follow(
             refusal: 0,
             capture: Capture {
                 chip: chip_after,
+                count: end.count,
                 line: line_after,
             },
         },

@@ -17,20 +17,20 @@ use Rattle.capture_trace.proofs.follow_bytes.Statement.{statement}
 use Rattle.capture_trace.proofs.follow_bytes.Tie as tie
 
 abbrev Inv-loop : tie.InvT-loop
-Inv-loop told memory₀ writers₀ part out₀ chip₀ line₀ tally₀ length₀ at₀ memory writers out chip line tally length at =
+Inv-loop told memory₀ writers₀ part out₀ chip₀ count₀ line₀ tally₀ length₀ at₀ memory writers out chip count line tally length at =
     (at ≤ lists.length part)
     × (lists.length memory ≡ lists.length memory₀)
     × (lists.length writers ≡ lists.length writers₀)
     × (lists.length out ≡ lists.length out₀)
     × (length ≤ top)
-    × (bytesFed (drop at part) (playing line (state chip memory writers)) ≡ bytesFed part (playing line₀ (state chip₀ memory₀ writers₀)))
-    × (talliedOver (doneInBytes (drop at part) (playing line (state chip memory writers))) tally
-    ≡ talliedOver (doneInBytes part (playing line₀ (state chip₀ memory₀ writers₀))) tally₀)
-    × ((l : List ℕ) (j : ℕ) → Wrote out length (toldLines told (doneInBytes (drop at part) (playing line (state chip memory writers)))) l j
-    → Wrote out₀ length₀ (toldLines told (doneInBytes part (playing line₀ (state chip₀ memory₀ writers₀)))) l j)
+    × (bytesFed (drop at part) (playing line (state chip memory writers count)) ≡ bytesFed part (playing line₀ (state chip₀ memory₀ writers₀ count₀)))
+    × (talliedOver (doneInBytes (drop at part) (playing line (state chip memory writers count))) tally
+    ≡ talliedOver (doneInBytes part (playing line₀ (state chip₀ memory₀ writers₀ count₀))) tally₀)
+    × ((l : List ℕ) (j : ℕ) → Wrote out length (toldLines told (doneInBytes (drop at part) (playing line (state chip memory writers count)))) l j
+    → Wrote out₀ length₀ (toldLines told (doneInBytes part (playing line₀ (state chip₀ memory₀ writers₀ count₀)))) l j)
 
 abbrev μ-loop : tie.MeasureT-loop
-μ-loop told memory₀ writers₀ part out₀ chip₀ line₀ tally₀ length₀ at₀ memory writers out chip line tally length at = lists.length part - at
+μ-loop told memory₀ writers₀ part out₀ chip₀ count₀ line₀ tally₀ length₀ at₀ memory writers out chip count line tally length at = lists.length part - at
 
 loop-holds : tie.Need-loop-holds Inv-loop μ-loop
 loop-holds c = (search needs, refl, refl, refl, search needs, refl, refl, λ l j w. w)
@@ -63,7 +63,7 @@ loop-again c =
     let given = start .args in
     let part = given .part .now in
     let scan = scanned part (head .at) _ _ (test .before .scan .ensures) (head .inv .0) in
-    let before = state (head .chip) (head .memory) (head .writers) in
+    let before = state (head .chip) (head .memory) (head .writers) (head .count) in
     let passed = none-scanned part (head .at) _ before _ (test .before .scan .ensures) (head .inv .0) in
     let there = scan .stops (test .if1 .taken) in (
       search needs,
@@ -93,7 +93,7 @@ loop-again-2 c =
     let given = c .before .before .before .before .before .before .before .before .before .before .args in
     let part = given .part .now in
     let scan = scanned part (head .at) _ _ (c .before .scan .ensures) (head .inv .0) in
-    let before = state (head .chip) (head .memory) (head .writers) in
+    let before = state (head .chip) (head .memory) (head .writers) (head .count) in
     let done = none-scanned part (head .at) _ before _ (c .before .scan .ensures) (head .inv .0) in (
       scan .within,
       head .inv .1,
@@ -119,7 +119,7 @@ returns c =
     let head = c .before .loop in
     let given = c .before .before .before .before .before .before .before .before .args in
     let part = given .part .now in
-    let last = playing (head .line) (state (head .chip) (head .memory) (head .writers)) in
+    let last = playing (head .line) (state (head .chip) (head .memory) (head .writers) (head .count)) in
     let none = none-in-end part (head .at) last (omega arith) in (
       sym (feed-ends part (head .at) _ (omega arith)) ∙ head .inv .5,
       (none-tallied (head .tally) none ∙ head .inv .6, head .inv .7 _ _ (none-told (given .told) _ _ (head .inv .4) none)),

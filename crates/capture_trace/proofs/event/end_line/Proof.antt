@@ -21,7 +21,7 @@ same-length-2 c = search needs
 returns : tie.Need-returns
 returns c =
     let given = c .before .before .before .before .before .before .before .before .before .before .before in
-    let none = no-event (given .args .course .line) (state (given .args .course .chip) (given .args .memory .now) (given .args .writers .now)) (c .before .before .before .before .before .before .before .match .keys2) in
+    let none = no-event (given .args .course .line) (state (given .args .course .chip) (given .args .memory .now) (given .args .writers .now) (given .args .course .count)) (c .before .before .before .before .before .before .before .match .keys2) in
     let pass = c .before .before .before .before .pass .ensures in
     (pass .0, (pass .1 .0 ∙ none-tallied _ none, passed-told (given .args .told) _ _ (search needs) none (pass .1 .1)))
 
@@ -40,7 +40,7 @@ same-length-5 c = search needs
 returns-2 : tie.Need-returns-2
 returns-2 c =
     let given = c .before .before .before .before .before .before .before .before .before .before .before .before .before .before .before .before .args in
-    end-known (Number _) (state (given .course .chip) (given .memory .now) (given .writers .now)) (given .told) (given .course .tally) (c .before .before .before .before .before .before .before .before .before .before .before .line .given .1)
+    end-known (Number _) (state (given .course .chip) (given .memory .now) (given .writers .now) (given .course .count)) (given .told) (given .course .tally) (c .before .before .before .before .before .before .before .before .before .before .before .line .given .1)
     (c .before .before .before .before .before .before .play .ensures)
 
 pub end-line-spec : {M : Type 1} → statement M

@@ -12,10 +12,10 @@ same-length : tie.Need-same-length
 same-length c = search needs
 
 returns : tie.Need-returns
-returns c = told-known true _ _ _ (c .before .before .before .before .if1 .taken) (c .before .before .line .ensures)
+returns c = told-known true _ _ _ _ (c .before .before .before .before .if1 .taken) (c .before .before .line .ensures)
 
 returns-2 : tie.Need-returns-2
-returns-2 c = told-known false _ _ _ (c .if1 .left) (wrote-none _ _ (search needs))
+returns-2 c = told-known false _ _ _ _ (c .if1 .left) (wrote-none _ _ (search needs))
 
 pub tell-spec : {M : Type 1} → statement M
 tell-spec = tie.close (tie.spec line-requires same-length returns returns-2)
