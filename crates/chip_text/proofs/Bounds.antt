@@ -97,7 +97,7 @@ record-allowed c = go (allowed c)
     go false e = absurd (omega (arith, e))
 
 -- a machine's numbers, and a record that is allowed
-module _ (c : Chip) (t : Tally) (is-allowed : allowed c ≡ true) (status : c .status < 2 ^ 8) (count : c .count < 2 ^ 64)
+module _ (c : Chip) (n : ℕ) (t : Tally) (is-allowed : allowed c ≡ true) (status : c .status < 2 ^ 8) (count : n < 2 ^ 64)
     (yes : t .acknowledged < 2 ^ 64) (no : t .«not_acknowledged» < 2 ^ 64) where
   record-bound : length (recordLines c) ≤ 315
   unfolding recordLines
@@ -116,11 +116,11 @@ module _ (c : Chip) (t : Tally) (is-allowed : allowed c ≡ true) (status : c .s
         named-bound (bytes "last rs") (bitOf (c .«last_rs»)) (omega (arith, bit-bound (c .«last_rs»))),
       )
 
-  bus-bound : length (busLines c t) ≤ 130
+  bus-bound : length (busLines c n t) ≤ 130
   unfolding busLines
   bus-bound =
       let phase = phaseLine (c .phase) in
-      let number = namedLine (bytes "count") (c .count) in
+      let number = namedLine (bytes "count") n in
       let sent = namedLine (bytes "acknowledged") (t .acknowledged) in
       let unsent = namedLine (bytes "not acknowledged") (t .«not_acknowledged») in
       omega (
@@ -130,11 +130,11 @@ module _ (c : Chip) (t : Tally) (is-allowed : allowed c ≡ true) (status : c .s
         length-append sent unsent,
         line-length (bytes "phase") (phaseWords (c .phase)),
         phase-bound (c .phase),
-        named-bound (bytes "count") (c .count) (omega (arith, count)),
+        named-bound (bytes "count") n (omega (arith, count)),
         named-bound (bytes "acknowledged") (t .acknowledged) (omega (arith, yes)),
         named-bound (bytes "not acknowledged") (t .«not_acknowledged») (omega (arith, no)),
       )
 
   -- 8 for each register, three letters of name and three digits; the others by their names and at most twenty digits
-  pub chip-text-bound : length (chipText c t) ≤ 445
-  chip-text-bound = omega (arith, length-append (recordLines c) (busLines c t), record-bound, bus-bound)
+  pub chip-text-bound : length (chipText c n t) ≤ 445
+  chip-text-bound = omega (arith, length-append (recordLines c) (busLines c n t), record-bound, bus-bound)

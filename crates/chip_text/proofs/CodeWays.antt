@@ -56,14 +56,14 @@ record-wrote {l₁ = l₁} c h is-v is-b r p s e =
     wrote-then h (wrote-same (ap registerLines is-v) r) (wrote-three h₁ p s (wrote-same (ap (namedLine (bytes "last rs")) is-b) e))
 
 pub bus-wrote :
-    {l₀ l₁ l₂ l₃ l₄ : List ℕ} {i₀ i₁ i₂ i₃ i₄ : ℕ} (c : Chip) (t : Tally) → length l₀ ≤ top
+    {l₀ l₁ l₂ l₃ l₄ : List ℕ} {i₀ i₁ i₂ i₃ i₄ : ℕ} (c : Chip) (n : ℕ) (t : Tally) → length l₀ ≤ top
     → Wrote l₀ i₀ (phaseLine (c .phase)) l₁ i₁
-    → Wrote l₁ i₁ (namedLine (bytes "count") (c .count)) l₂ i₂
+    → Wrote l₁ i₁ (namedLine (bytes "count") n) l₂ i₂
     → Wrote l₂ i₂ (namedLine (bytes "acknowledged") (t .acknowledged)) l₃ i₃
     → Wrote l₃ i₃ (namedLine (bytes "not acknowledged") (t .«not_acknowledged»)) l₄ i₄
-    → Wrote l₀ i₀ (busLines c t) l₄ i₄
+    → Wrote l₀ i₀ (busLines c n t) l₄ i₄
 unfolding busLines
-bus-wrote {l₁ = l₁} c t h p n y o = let h₁ : length l₁ ≤ top = omega (arith, wrote-length p) in wrote-then h p (wrote-three h₁ n y o)
+bus-wrote {l₁ = l₁} c n t h p m y o = let h₁ : length l₁ ≤ top = omega (arith, wrote-length p) in wrote-then h p (wrote-three h₁ m y o)
 
 -- ---- what is printed of a capture, by the variant of its end
 
@@ -71,9 +71,10 @@ pub refused-end : (e : End) (t : Tally) (out : List ℕ) → OneOf (0 ∷ 1 ∷ 
 unfolding chipTextCall
 refused-end (ends.Refused k) t out q = refl
 refused-end ends.BadFirst t out q = refl
-refused-end (ends.Bad c) t out q = refl
-refused-end (ends.Whole c) t out q = absurd (not-whole q)
+refused-end (ends.Bad c n) t out q = refl
+refused-end (ends.Whole c n) t out q = absurd (not-whole q)
 
-pub whole-end : (c : Chip) (e : End) (t : Tally) (out : List ℕ) → e ≡ ends.Whole c → wholeText (recordRefusal c) (chipText c t) out ≡ chipTextCall e t out
+pub whole-end :
+    (c : Chip) (n : ℕ) (e : End) (t : Tally) (out : List ℕ) → e ≡ ends.Whole c n → wholeText (recordRefusal c) (chipText c n t) out ≡ chipTextCall e t out
 unfolding chipTextCall
-whole-end c e t out is = rw is
+whole-end c n e t out is = rw is

@@ -4,7 +4,7 @@ use mathlib.Core.List.{_++_}
 use mathlib.Core.Path.{_≡_, refl}
 use Rattle.registers.specs.declared.Chip.{Chip}
 use Rattle.registers.specs.declared.Phase.the-variants.{EndlessBytes}
-use Rattle.registers.specs.Record.{put, resetChip, inPhase, withRegisters, withStatus, withLastRs, withCount}
+use Rattle.registers.specs.Record.{put, resetChip, inPhase, withRegisters, withStatus, withLastRs}
 use Rattle.text.specs.Text.{bytes}
 use Rattle.print.specs.Printed.{decimalOf}
 use Rattle.capture_trace.specs.Follow.{tally}
@@ -13,13 +13,12 @@ use Rattle.chip_text.specs.ChipText.{phaseWords, registerLines, recordLi
 -- pins 2; X 100, Y 16 and VOP 127, else as after a reset; amid endless display bytes, a status byte of 25
 abbrev chosen : Chip
 chosen =
-    withCount
-    (withLastRs
+    withLastRs
     (withStatus
-    (inPhase (withRegisters (resetChip 2) (put 9 100 (put 10 16 (put 19 127 (resetChip 2 .registers))))) (EndlessBytes true)) 25) true) 18446744073709551615
+    (inPhase (withRegisters (resetChip 2) (put 9 100 (put 10 16 (put 19 127 (resetChip 2 .registers))))) (EndlessBytes true)) 25) true
 
 pub chip-said :
-    chipText chosen (tally 54 4)
+    chipText chosen 18446744073709551615 (tally 54 4)
     ≡ bytes "h\t0\ndo\t0\npd\t1\nv\t0\nd\t0\ne\t0\nmx\t0\nmy\t0\nps\t0\nx\t100\ny\t16\n"
     ++ bytes "bs\t0\nbsh\t0\ndp\t0\nprs\t0\nhve\t0\ns\t0\ntc\t0\nsm\t0\nvop\t127\n"
     ++ bytes "gr\t0\ngs0\t0\ngs1\t0\ngs2\t0\ngs3\t0\ndof\t1\ndm\t0\nec\t0\noc\t0\n"

@@ -65,19 +65,19 @@ recordLines c =
     ++ namedLine (bytes "last rs") (bitOf (c .«last_rs»))))
 
 -- where the bus stands, and what it has seen
-unfoldable pub busLines : Chip → Tally → List ℕ
-busLines c t =
+unfoldable pub busLines : Chip → ℕ → Tally → List ℕ
+busLines c n t =
     phaseLine (c .phase)
-    ++ (namedLine (bytes "count") (c .count)
+    ++ (namedLine (bytes "count") n
     ++ (namedLine (bytes "acknowledged") (t .acknowledged)
     ++ namedLine (bytes "not acknowledged") (t .«not_acknowledged»)))
 
-abbrev pub chipText : Chip → Tally → List ℕ
-chipText c t = recordLines c ++ busLines c t
+abbrev pub chipText : Chip → ℕ → Tally → List ℕ
+chipText c n t = recordLines c ++ busLines c n t
 
 -- of a capture that came to an end and was tallied so: the answer, and the buffer. 2: a record that is not allowed
 unfoldable pub chipTextCall : End → Tally → List ℕ → Output
 chipTextCall (ends.Refused k) t out = refusedCall [] (ends.Refused k) out
 chipTextCall ends.BadFirst t out = refusedCall [] ends.BadFirst out
-chipTextCall (ends.Bad c) t out = refusedCall [] (ends.Bad c) out
-chipTextCall (ends.Whole c) t out = wholeText (recordRefusal c) (chipText c t) out
+chipTextCall (ends.Bad c n) t out = refusedCall [] (ends.Bad c n) out
+chipTextCall (ends.Whole c n) t out = wholeText (recordRefusal c) (chipText c n t) out

@@ -94,46 +94,46 @@ fn record_lines(chip: Chip, out: &mut [u8], at: usize) -> usize
 }
 
 // Where the bus stands, and what it has seen.
-fn bus_lines(chip: Chip, tally: Tally, out: &mut [u8], at: usize) -> usize
-    ensures { λ r. ⌜ Wrote (now (out .entry)) at (busLines chip tally) (now (out .exit)) r ⌝ }
+fn bus_lines(chip: Chip, count: u64, tally: Tally, out: &mut [u8], at: usize) -> usize
+    ensures { λ r. ⌜ Wrote (now (out .entry)) at (busLines chip count tally) (now (out .exit)) r ⌝ }
 {
     let phase = chip.phase;
     let after_phase = phase_line(phase, out, at);
-    let after_count = print::named_line(b"count", chip.count, out, after_phase);
+    let after_count = print::named_line(b"count", count, out, after_phase);
     let after_yes = print::named_line(b"acknowledged", tally.acknowledged, out, after_count);
     print::named_line(b"not acknowledged", tally.not_acknowledged, out, after_yes)
 }
 
 // The whole text.
-fn lines(chip: Chip, tally: Tally, out: &mut [u8]) -> usize
-    ensures { λ r. ⌜ Wrote (now (out .entry)) 0 (chipText chip tally) (now (out .exit)) r ⌝ }
+fn lines(chip: Chip, count: u64, tally: Tally, out: &mut [u8]) -> usize
+    ensures { λ r. ⌜ Wrote (now (out .entry)) 0 (chipText chip count tally) (now (out .exit)) r ⌝ }
 {
     let after_record = record_lines(chip, out, 0);
-    bus_lines(chip, tally, out, after_record)
+    bus_lines(chip, count, tally, out, after_record)
 }
 
 // The whole text, if there is room for it. 2: a record that is not allowed.
-fn text(chip: Chip, tally: Tally, out: &mut [u8]) -> Written
-    ensures { λ r. ⌜ output r (now (out .exit)) ≡ wholeText (recordRefusal chip) (chipText chip tally) (now (out .entry)) ⌝ }
+fn text(chip: Chip, count: u64, tally: Tally, out: &mut [u8]) -> Written
+    ensures { λ r. ⌜ output r (now (out .exit)) ≡ wholeText (recordRefusal chip) (chipText chip count tally) (now (out .entry)) ⌝ }
 {
     let refused = registers::refusal::of_record(chip);
     if refused != 0 {
         return Written::Refused(refused);
     }
     let mut none = [0u8; 0];
-    let needed = lines(chip, tally, &mut none);
+    let needed = lines(chip, count, tally, &mut none);
     if out.len() < needed {
         return Written::Short(needed);
     }
-    Written::Text(lines(chip, tally, out))
+    Written::Text(lines(chip, count, tally, out))
 }
 
-// What is printed of a capture that came to `end` and was tallied so: the chip's record, or the line where it is bad, from the start of `out` on.
+// What is printed of a capture that came to `end` and was tallied so: the chip's record and the count, or the line where it is bad, from the start of `out` on.
 pub fn chip_text(end: End, tally: Tally, out: &mut [u8]) -> Written
     ensures { λ r. ⌜ output r (now (out .exit)) ≡ chipTextCall end tally (now (out .entry)) ⌝ }
 {
-    let End::Whole(chip) = end else {
+    let End::Whole(chip, count) = end else {
         return listing::refused(b"", end, out);
     };
-    text(chip, tally, out)
+    text(chip, count, tally, out)
 }

@@ -86,8 +86,8 @@ pub refused-by-memories : (file : List ℕ) (e : End) (m w out : List ℕ) → r
 unfolding refusedCall meaning
 refused-by-memories file (ends.Refused k) m w out = refl
 refused-by-memories file ends.BadFirst m w out = refl
-refused-by-memories file (ends.Bad c) m w out = refl
-refused-by-memories file (ends.Whole c) m w out = refl
+refused-by-memories file (ends.Bad c n) m w out = refl
+refused-by-memories file (ends.Whole c n) m w out = refl
 
 -- variant 3 of the four is none of the others
 pub not-whole : OneOf (0 ∷ 1 ∷ 2 ∷ []) 3 → ⊥
@@ -101,8 +101,8 @@ pub refused-end :
 unfolding refusedCall meaning
 refused-end (ends.Refused k) m w out t = refl
 refused-end ends.BadFirst m w out t = refl
-refused-end (ends.Bad c) m w out t = refl
-refused-end (ends.Whole c) m w out t = absurd (not-whole t)
+refused-end (ends.Bad c n) m w out t = refl
+refused-end (ends.Whole c n) m w out t = absurd (not-whole t)
 
 -- x is what the code found, k what the definition says
 pub text-refused : (x k : ℕ) (out : List ℕ) (text : Output) → x ≡ k → (x ≡ 0 → ⊥) → output (Refused x) out ≡ textUnless k out text
@@ -117,6 +117,6 @@ unfolding replayTextCall
 text-passed end m w out x o ex z h = let none : lengthsRefusal (length m) (length w) ≡ 0 = sym ex ∙ z in rw none h
 
 -- an end that is a replay's
-pub text-whole : (c : Chip) (end : End) (m w out : List ℕ) → end ≡ ends.Whole c → listingCall m w out ≡ textOfReplay (meaning end m w) out
+pub text-whole : (c : Chip) (n : ℕ) (end : End) (m w out : List ℕ) → end ≡ ends.Whole c n → listingCall m w out ≡ textOfReplay (meaning end m w) out
 unfolding meaning
-text-whole c end m w out e = rw e
+text-whole c n end m w out e = rw e

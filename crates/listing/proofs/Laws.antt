@@ -37,9 +37,9 @@ pub memories-of : (e : End) (m w : List ℕ) (end : State) → meaning e m w ≡
 unfolding meaning
 memories-of (ends.Refused k) m w end q = absurd (let z : _≡_ {A = ℕ} 0 1 = cc q in omega arith)
 memories-of ends.BadFirst m w end q = absurd (let z : _≡_ {A = ℕ} 0 1 = cc q in omega arith)
-memories-of (ends.Bad c) m w end q = absurd (let z : _≡_ {A = ℕ} 0 1 = cc q in omega arith)
-memories-of (ends.Whole c) m w end q =
-    let same : state c m w ≡ end = cc q in
+memories-of (ends.Bad c n) m w end q = absurd (let z : _≡_ {A = ℕ} 0 1 = cc q in omega arith)
+memories-of (ends.Whole c n) m w end q =
+    let same : state c m w n ≡ end = cc q in
     (ap (λ (s : State). s .memory) same, ap (λ (s : State). s .writers) same)
 
 module _ (memory writers : List ℕ) where

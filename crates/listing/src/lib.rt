@@ -101,8 +101,8 @@ pub fn refused(file: &[u8], end: End, out: &mut [u8]) -> Written
     match end {
         End::Refused(number) => Written::Refused(number),
         End::BadFirst => refused_at(file, 0, 1, out),
-        End::Bad(chip) => refused_at(file, chip.count, 2, out),
-        End::Whole(_) => Written::Text(0),
+        End::Bad(_, count) => refused_at(file, count, 2, out),
+        End::Whole(_, _) => Written::Text(0),
     }
 }
 
@@ -114,7 +114,7 @@ pub fn replay_text(end: End, memory: &[u8], writers: &[u64], out: &mut [u8]) -> 
     if wrong != 0 {
         return Written::Refused(wrong);
     }
-    let End::Whole(_) = end else {
+    let End::Whole(_, _) = end else {
         return refused(b"", end, out);
     };
     listing(memory, writers, out)

@@ -34,7 +34,7 @@ returns c =
     let named-line = named-line2 .before .before .before .before .before in
     let phase-line = named-line .before .before .before .before .before in
     let start = phase-line .before .before .before in
-    bus-wrote _ _ (omega (arith, start .good .1 .1 .0)) (phase-line .phase-line .ensures) (named-line .named-line .ensures) (named-line2 .named-line2 .ensures)
+    bus-wrote _ _ _ (omega (arith, start .good .1 .1 .1 .0)) (phase-line .phase-line .ensures) (named-line .named-line .ensures) (named-line2 .named-line2 .ensures)
     (c .before .before .named-line3 .ensures)
 
 pub bus-lines-spec : {M : Type 1} → statement M

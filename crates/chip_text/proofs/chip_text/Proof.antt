@@ -26,7 +26,7 @@ same-length-2 : tie.Need-same-length-2
 same-length-2 c = search needs
 
 returns-2 : tie.Need-returns-2
-returns-2 c = c .before .before .text .ensures ∙ whole-end _ _ _ _ (c .before .before .before .before .before .end .given .1)
+returns-2 c = c .before .before .text .ensures ∙ whole-end _ _ _ _ _ (c .before .before .before .before .before .end .given .1)
 
 pub chip-text-spec : {M : Type 1} → statement M
 chip-text-spec =

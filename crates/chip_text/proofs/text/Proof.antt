@@ -10,13 +10,13 @@ use borrow.Author.Needs.{needs}
 use Rattle.chip_text.proofs.text.Statement.{statement}
 use Rattle.chip_text.proofs.text.Tie as tie
 
--- the numbers of the record and of the tally are a machine's
-room : (c : tie.Else1) → (let args = c .before .before .before .args in length (chipText (args .chip) (args .tally)) ≤ top)
+-- the numbers of the record, the count and those of the tally are a machine's
+room : (c : tie.Else1) → (let args = c .before .before .before .args in length (chipText (args .chip) (args .count) (args .tally)) ≤ top)
 room c =
     let start = c .before .before .before in
     let bound =
-    chip-text-bound (start .args .chip) (start .args .tally) (record-allowed (start .args .chip) (sym (c .before .of-record .ensures) ∙ c .if1 .left))
-    (omega (arith, start .good .0)) (omega (arith, start .good .0)) (omega (arith, start .good .1 .0)) (omega (arith, start .good .1 .0)) in
+    chip-text-bound (start .args .chip) (start .args .count) (start .args .tally) (record-allowed (start .args .chip) (sym (c .before .of-record .ensures) ∙ c .if1 .left))
+    (omega (arith, start .good .0)) (omega (arith, start .good .1 .0)) (omega (arith, start .good .1 .1 .0)) (omega (arith, start .good .1 .1 .0)) in
     omega (arith, bound)
 
 of-record-requires : tie.Need-of-record-requires

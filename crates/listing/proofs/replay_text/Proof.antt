@@ -44,7 +44,7 @@ returns-3 c =
     let test = whole .before .before in
     let args = test .before .before .before .before .before .args in
     text-passed (args .end) (args .memory .now) (args .writers .now) (args .out .now) _ _ (test .before .of-lengths .ensures) (test .if1 .left)
-    (c .before .before .listing .ensures ∙ text-whole _ (args .end) (args .memory .now) (args .writers .now) (args .out .now) (whole .enum-told .given .1))
+    (c .before .before .listing .ensures ∙ text-whole _ _ (args .end) (args .memory .now) (args .writers .now) (args .out .now) (whole .enum-told .given .1))
 
 pub replay-text-spec : {M : Type 1} → statement M
 replay-text-spec =
