@@ -125,24 +125,24 @@ pub first-refused-end :
 unfolding refusedCall meaning
 first-refused-end (ends.Refused k) m w second out t = refl
 first-refused-end ends.BadFirst m w second out t = refl
-first-refused-end (ends.Bad c) m w second out t = refl
-first-refused-end (ends.Whole c) m w second out t = absurd (not-whole t)
+first-refused-end (ends.Bad c k) m w second out t = refl
+first-refused-end (ends.Whole c k) m w second out t = absurd (not-whole t)
 
 pub second-refused-end :
-    (c : Chip) (e : End) (m w : List ℕ) (f : End) (n v out : List ℕ) → e ≡ ends.Whole c → OneOf (0 ∷ 1 ∷ 2 ∷ []) (tagOf the-type f)
+    (c : Chip) (k : ℕ) (e : End) (m w : List ℕ) (f : End) (n v out : List ℕ) → e ≡ ends.Whole c k → OneOf (0 ∷ 1 ∷ 2 ∷ []) (tagOf the-type f)
     → refusedCall (bytes "2\t") f out ≡ comparisonOf (meaning e m w) (meaning f n v) out
 unfolding refusedCall meaning
-second-refused-end c e m w (ends.Refused k) n v out is t = rw is
-second-refused-end c e m w ends.BadFirst n v out is t = rw is
-second-refused-end c e m w (ends.Bad d) n v out is t = rw is
-second-refused-end c e m w (ends.Whole d) n v out is t = absurd (not-whole t)
+second-refused-end c k e m w (ends.Refused j) n v out is t = rw is
+second-refused-end c k e m w ends.BadFirst n v out is t = rw is
+second-refused-end c k e m w (ends.Bad d j) n v out is t = rw is
+second-refused-end c k e m w (ends.Whole d j) n v out is t = absurd (not-whole t)
 
 pub both-whole :
-    (c d : Chip) (e : End) (m w : List ℕ) (f : End) (n v out : List ℕ) (x : ℕ) → e ≡ ends.Whole c → f ≡ ends.Whole d
+    (c d : Chip) (k j : ℕ) (e : End) (m w : List ℕ) (f : End) (n v out : List ℕ) (x : ℕ) → e ≡ ends.Whole c k → f ≡ ends.Whole d j
     → x ≡ differencesRefusal (memories m w) (memories n v) → x ≡ 0
     → differencesCall (compared (values (c .registers)) m w) (compared (values (d .registers)) n v) out
     ≡ comparisonOf (meaning e m w) (meaning f n v) out
 unfolding meaning
-both-whole c d e m w f n v out x is is′ ex z =
+both-whole c d k j e m w f n v out x is is′ ex z =
     let none : differencesRefusal (memories m w) (memories n v) ≡ 0 = sym ex ∙ z in
     rw (is, is′, none)

@@ -298,10 +298,10 @@ pub fn comparison(
     if refused != 0 {
         return Written::Refused(refused);
     }
-    let End::Whole(first_chip) = first else {
+    let End::Whole(first_chip, _) = first else {
         return listing::refused(b"1\t", first, out);
     };
-    let End::Whole(second_chip) = second else {
+    let End::Whole(second_chip, _) = second else {
         return listing::refused(b"2\t", second, out);
     };
     differences(

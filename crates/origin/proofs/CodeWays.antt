@@ -174,15 +174,15 @@ pub refused-told :
 unfolding refusedCall meaning
 refused-told (ends.Refused k) m w row column out t = refl
 refused-told ends.BadFirst m w row column out t = refl
-refused-told (ends.Bad c) m w row column out t = refl
-refused-told (ends.Whole c) m w row column out t = absurd (not-whole t)
+refused-told (ends.Bad c n) m w row column out t = refl
+refused-told (ends.Whole c n) m w row column out t = absurd (not-whole t)
 
 -- one that is
 pub whole-told :
-    (c : Chip) (e : End) (m w : List ℕ) (row column : ℕ) (out : List ℕ) (o : Output) → e ≡ ends.Whole c → o ≡ originCall c m w row column out
+    (c : Chip) (n : ℕ) (e : End) (m w : List ℕ) (row column : ℕ) (out : List ℕ) (o : Output) → e ≡ ends.Whole c n → o ≡ originCall c m w row column out
     → o ≡ toldOf (meaning e m w) row column out
 unfolding meaning
-whole-told c e m w row column out o same h = rw same h
+whole-told c n e m w row column out o same h = rw same h
 
 -- where 1 lets the memories pass
 pub told-passed :

@@ -185,7 +185,7 @@ pub fn origin_text(
     if wrong != 0 {
         return Written::Refused(wrong);
     }
-    let End::Whole(chip) = end else {
+    let End::Whole(chip, _) = end else {
         return listing::refused(b"", end, out);
     };
     of_pixel(chip, memory, writers, row, column, out)

@@ -56,7 +56,7 @@ returns-3 c =
     comparison-passed (args .first) (args .first-memory .now) (args .first-writers .now) (args .second) (args .second-memory .now) (args .second-writers .now)
     (args .out .now) _ _ (test .before .refusal .ensures) (test .if1 .left)
     (c .before .before .refused2 .ensures
-    ∙ second-refused-end _ (args .first) (args .first-memory .now) (args .first-writers .now) (args .second) (args .second-memory .now)
+    ∙ second-refused-end _ _ (args .first) (args .first-memory .now) (args .first-writers .now) (args .second) (args .second-memory .now)
     (args .second-writers .now) (args .out .now) (whole .first .given .1) (match .match2 .keys2))
 
 differences-requires : tie.Need-differences-requires
@@ -74,7 +74,7 @@ returns-4 c =
     comparison-passed (args .first) (args .first-memory .now) (args .first-writers .now) (args .second) (args .second-memory .now) (args .second-writers .now)
     (args .out .now) _ _ (test .before .refusal .ensures) (test .if1 .left)
     (c .before .before .differences .ensures
-    ∙ both-whole _ _ (args .first) (args .first-memory .now) (args .first-writers .now) (args .second) (args .second-memory .now) (args .second-writers .now)
+    ∙ both-whole _ _ _ _ (args .first) (args .first-memory .now) (args .first-writers .now) (args .second) (args .second-memory .now) (args .second-writers .now)
     (args .out .now) _ (first .first .given .1) (second .second .given .1) (test .before .refusal .ensures) (test .if1 .left))
 
 pub comparison-spec : {M : Type 1} → statement M

@@ -48,7 +48,7 @@ returns-3 c =
     let args = test .before .before .before .before .before .args in
     told-passed (args .end) (args .memory .now) (args .writers .now) (args .row) (args .column) (args .out .now) _ _ (test .before .of-lengths .ensures)
     (test .if1 .left)
-    (whole-told _ (args .end) (args .memory .now) (args .writers .now) (args .row) (args .column) (args .out .now) _ (whole .end .given .1)
+    (whole-told _ _ (args .end) (args .memory .now) (args .writers .now) (args .row) (args .column) (args .out .now) _ (whole .end .given .1)
     (c .before .before .of-pixel .ensures))
 
 pub origin-text-spec : {M : Type 1} → statement M
