@@ -26,7 +26,7 @@ static uint64_t step_all(struct side *side)
 {
     for (size_t i = 0; i < stream.length; i++)
         side->sum += side->calls->step(side->record, WORDS, side->memory, PLACES,
-                                       side->writers, PLACES, stream.events[i]);
+                                       side->writers, PLACES, &side->count, stream.events[i]);
     return stream.length;
 }
 
@@ -34,7 +34,8 @@ static void run_part(struct side *side, size_t from, size_t to)
 {
     uint64_t done, unknown, out_of_range;
     side->sum += side->calls->run(side->record, WORDS, side->memory, PLACES, side->writers, PLACES,
-                                  stream.events + from, to - from, &done, &unknown, &out_of_range);
+                                  &side->count, stream.events + from, to - from, &done, &unknown,
+                                  &out_of_range);
     /* Each by a weight of its own, so that counts that are exchanged make another sum. */
     side->sum += done + 3 * unknown + 7 * out_of_range;
 }

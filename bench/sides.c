@@ -35,6 +35,7 @@ void clear(struct side *side)
     model_reset(side->record, WORDS, 0);
     memset(side->memory, 0, sizeof side->memory);
     memset(side->writers, 0, sizeof side->writers);
+    side->count = 0;
     memset(side->row, 0, sizeof side->row);
     memset(side->out, 0, sizeof side->out);
     side->sum = 0;
@@ -55,6 +56,7 @@ void light_up(void)
     memcpy(model.record, library.record, sizeof model.record);
     memcpy(model.memory, library.memory, sizeof model.memory);
     memset(model.writers, 0, sizeof model.writers);
+    model.count = 0;
     memset(model.row, 0, sizeof model.row);
     model.sum = 0;
 }
@@ -65,6 +67,7 @@ void must_agree(const char *name)
         && memcmp(library.record, model.record, sizeof model.record) == 0
         && memcmp(library.memory, model.memory, sizeof model.memory) == 0
         && memcmp(library.writers, model.writers, sizeof model.writers) == 0
+        && library.count == model.count
         && memcmp(library.row, model.row, sizeof model.row) == 0
         && memcmp(library.out, model.out, sizeof model.out) == 0)
         return;

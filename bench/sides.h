@@ -5,11 +5,12 @@
 #include <stddef.h>
 #include <stdint.h>
 
-enum { WORDS = 35, PLACES = 1717, ROW_BYTES = 404, MOST_OUT = 1 << 18 };
+enum { WORDS = 34, PLACES = 1717, ROW_BYTES = 404, MOST_OUT = 1 << 18 };
 
 struct calls {
-    uint64_t (*step)(uint64_t *, size_t, uint8_t *, size_t, uint64_t *, size_t, uint16_t);
-    uint64_t (*run)(uint64_t *, size_t, uint8_t *, size_t, uint64_t *, size_t,
+    uint64_t (*step)(uint64_t *, size_t, uint8_t *, size_t, uint64_t *, size_t,
+                     uint64_t *, uint16_t);
+    uint64_t (*run)(uint64_t *, size_t, uint8_t *, size_t, uint64_t *, size_t, uint64_t *,
                     const uint16_t *, size_t, uint64_t *, uint64_t *, uint64_t *);
     uint64_t (*glass)(const uint64_t *, size_t, const uint8_t *, size_t, uint64_t, uint64_t);
     uint64_t (*pulse_row)(const uint64_t *, size_t, const uint8_t *, size_t, uint64_t,
@@ -24,6 +25,7 @@ struct side {
     uint64_t record[WORDS];
     uint8_t memory[PLACES];
     uint64_t writers[PLACES];
+    uint64_t count;
     uint8_t row[ROW_BYTES];
     uint16_t out[MOST_OUT];
     uint64_t sum;
@@ -31,7 +33,7 @@ struct side {
 
 extern struct side library, model;
 
-/* The reset record, both memories and the outputs 0. */
+/* The reset record; both memories, the count and the outputs 0. */
 void clear(struct side *side);
 
 /* A record that shows levels, and a random memory, the same on both sides. */

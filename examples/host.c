@@ -17,10 +17,11 @@ enum { WORDS = PCF8820_RECORD_WORDS, PLACES = PCF8820_PLACES, MOST_EVENTS = 1000
 /* The least number that is no refusal, of the calls that give more than whether they were done. */
 enum { ACCEPTED = PCF8820_ANSWER_NONE };
 
-/* All that a chip is made of. The host lends it to each call. */
+/* All that a chip is made of, and how many events there were. The host lends it to each call. */
 static uint64_t record[WORDS];
 static uint8_t memory[PLACES];
 static uint64_t writers[PLACES];
+static uint64_t count;
 
 static uint16_t events[MOST_EVENTS];
 
@@ -78,7 +79,7 @@ static uint64_t compile(void)
 static void play(uint64_t length)
 {
     uint64_t done, unknown, out_of_range;
-    must("run", pcf8820_run(record, WORDS, memory, PLACES, writers, PLACES, events, length,
+    must("run", pcf8820_run(record, WORDS, memory, PLACES, writers, PLACES, &count, events, length,
                             &done, &unknown, &out_of_range));
     printf("%llu done, commands unknown: %llu, out of range: %llu\n", (unsigned long long)done,
            (unsigned long long)unknown, (unsigned long long)out_of_range);
@@ -102,7 +103,7 @@ static void print_corner(uint64_t rows, uint64_t columns)
     }
 }
 
-/* The first event since the chip's reset has the number 1; 0 stands for none. */
+/* The count began at 0, so the first event has the number 1; 0 stands for none. */
 static void print_writer(uint64_t row, uint64_t column)
 {
     uint64_t answer = accepted("place", pcf8820_place(record, WORDS, row, column));
@@ -159,7 +160,7 @@ static const char *told(uint64_t answer)
 static void send_event(uint16_t event)
 {
     uint64_t answer = accepted("step", pcf8820_step(record, WORDS, memory, PLACES, writers, PLACES,
-                                                    event));
+                                                    &count, event));
     if (told(answer) != NULL)
         printf("command %u: %s\n", event, told(answer));
 }

@@ -2,7 +2,7 @@
  *
  * The chip's record
  *
- * The host holds a chip's record as 35 words of 64 bits, in this order:
+ * The host holds a chip's record as 34 words of 64 bits, in this order:
  *
  *   word  what                                               allowed
  *      0  h    command page                                  0..4
@@ -43,9 +43,8 @@
  *           2 ignoring              6 reading
  *           3 control byte awaited  7 read ended
  *     33  the phase's RS                                     0, 1 in phases 4 and 5, else 0
- *     34  the event count                                    any
  *
- * Any other buffer, one that is not 35 words long among them, stands for no record. The words, the
+ * Any other buffer, one that is not 34 words long among them, stands for no record. The words, the
  * phases and all numbers below have names, which stand before the calls.
  *
  * The memories
@@ -63,7 +62,11 @@
  *   260       reset pulse
  *   512..767  a sensor reading of 0..255
  *
- * Every accepted event first adds 1 to the event count; the sum is the event's number.
+ * The event count
+ *
+ * The host holds it beside the record, as one word, and hands it to pcf8820_step and pcf8820_run by
+ * pointer. Every accepted event first adds 1 to it; the sum is the event's number. A refused event
+ * leaves it as it is. A host that begins with pcf8820_reset sets its count to 0 itself.
  *
  * Refusals by the chip (those of the glass and of drawing lists stand with their calls)
  *
@@ -74,11 +77,13 @@
  *
  * Where more than one applies, the lowest is given. A refused call changes no buffer that it is lent,
  * with one exception: a run does the events before its refused one, and these stand. The numbers that
- * a call gives by pointer are results: they are set in every case, refused or not.
+ * a call gives by pointer are results: they are set in every case, refused or not. The count is none
+ * of them: it is handed in and back.
  *
- * Every length counts elements, not bytes. The buffers of one call must be valid for their length,
- * aligned, and must not overlap; nothing more is asked of them. Where a length is 0 the pointer still
- * has to be aligned and not null: any object of the type will do, and it is not touched.
+ * Every length counts elements, not bytes. The buffers of one call, the count and the results with
+ * them, must be valid for their length, aligned, and must not overlap; nothing more is asked of them.
+ * Where a length is 0 the pointer still has to be aligned and not null: any object of the type will do,
+ * and it is not touched.
  */
 #ifndef PCF8820_H
 #define PCF8820_H
@@ -96,7 +101,7 @@ extern "C" {
  * frames of a round, and bytes in the row buffer of pcf8820_pulse_row, which are columns times frames;
  * lines of a drawing list at most. */
 enum pcf8820_size {
-    PCF8820_RECORD_WORDS = 35,
+    PCF8820_RECORD_WORDS = 34,
     PCF8820_COLUMNS = 101,
     PCF8820_BANKS = 17,
     PCF8820_PLACES = 1717,
@@ -141,8 +146,7 @@ enum pcf8820_word {
     PCF8820_WORD_STATUS = 30,
     PCF8820_WORD_LAST_RS = 31,
     PCF8820_WORD_PHASE = 32,
-    PCF8820_WORD_PHASE_RS = 33,
-    PCF8820_WORD_COUNT = 34
+    PCF8820_WORD_PHASE_RS = 33
 };
 
 /* What the word of the phase holds. */
@@ -216,10 +220,10 @@ enum pcf8820_refusal {
 /* Writes the record after a power-on reset for these pins: pd and dof are 1, word 29 is pins, every
  * other word is 0.
  *
- * Gives 0; or 2, with the buffer unchanged, if pins is above 3 or record_len is not 35. */
+ * Gives 0; or 2, with the buffer unchanged, if pins is above 3 or record_len is not 34. */
 uint64_t pcf8820_reset(uint64_t *record, size_t record_len, uint64_t pins);
 
-/* Takes one bus event. The record and the memories are changed in place.
+/* Takes one bus event. The record, the memories and the count are changed in place.
  *
  * Gives
  *   1..4     refused, nothing changed
@@ -238,11 +242,12 @@ uint64_t pcf8820_reset(uint64_t *record, size_t record_len, uint64_t pins);
 uint64_t pcf8820_step(uint64_t *record, size_t record_len,
                       uint8_t *memory, size_t memory_len,
                       uint64_t *writers, size_t writers_len,
-                      uint16_t event);
+                      uint64_t *count, uint16_t event);
 
 /* Takes bus events in order, up to the first refused one. Refusals 1 and 2 are looked for once, at
  * entry, even where there are no events; 3 and 4 at each event. The events before a refused one
- * stand: the record and the memories are left as the last of them made them.
+ * stand: the record and the memories are left as the last of them made them, and *count has risen by
+ * as many as were done.
  *
  * Gives 0 if all events were done, else the refusal, 1..4. Three numbers are set in every case:
  *   *done          how many events were done
@@ -252,7 +257,7 @@ uint64_t pcf8820_step(uint64_t *record, size_t record_len,
 uint64_t pcf8820_run(uint64_t *record, size_t record_len,
                      uint8_t *memory, size_t memory_len,
                      uint64_t *writers, size_t writers_len,
-                     const uint16_t *events, size_t events_len,
+                     uint64_t *count, const uint16_t *events, size_t events_len,
                      uint64_t *done, uint64_t *unknown, uint64_t *out_of_range);
 
 /* The glass

@@ -13,19 +13,21 @@ int main(void)
         256, 120, 128, 1, 128, 228, 128, 66, 64, 255, 257,
         256, 120, 128, 1, 128, 229, 128, 66, 64, 255, 257,
     };
-    uint64_t done, unknown, out_of_range;
+    uint64_t count = 0, done, unknown, out_of_range;
 
     pcf8820_reset(record, RECORD, 0);
     for (int i = 0; i < EVENTS; i++) {
-        uint64_t answer = pcf8820_step(record, RECORD, memory, CELLS, writers, CELLS, events[i]);
+        uint64_t answer = pcf8820_step(record, RECORD, memory, CELLS, writers, CELLS, &count,
+                                       events[i]);
         if (events[i] == 228 || events[i] == 229)
             printf("%d is answered by %" PRIu64 "\n", events[i], answer);
     }
 
     /* The same events in one run, on a chip after reset. */
     pcf8820_reset(record, RECORD, 0);
-    pcf8820_run(record, RECORD, memory, CELLS, writers, CELLS, events, EVENTS, &done, &unknown,
-                &out_of_range);
+    count = 0;
+    pcf8820_run(record, RECORD, memory, CELLS, writers, CELLS, &count, events, EVENTS, &done,
+                &unknown, &out_of_range);
     printf("%" PRIu64 " events, out of range %" PRIu64 "\n", done, out_of_range);
     return 0;
 }

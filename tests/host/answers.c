@@ -96,11 +96,13 @@ static void expect_again(const uint64_t *words, const struct span *span, uint16_
     expect_registers(&set, &after, W_H + 1, span->what);
 }
 
+/* The count leaves room for a second event. */
 static void try_command(const uint64_t *words, uint16_t byte)
 {
     static struct state before, after;
     const struct span *span = span_of(words[W_H], byte);
     set_record(words);
+    set_count(below(1000));
     save(&before);
     expect_answer(span->what, byte, span->answer);
     save(&after);
@@ -110,11 +112,9 @@ static void try_command(const uint64_t *words, uint16_t byte)
         expect_registers(&before, &after, W_H, span->what);
 }
 
-/* The count leaves room for a second event. */
 static void try_commands(uint64_t *words, const struct bus_phase *phase)
 {
     set_phase(words, phase);
-    words[W_COUNT] = below(1000);
     for (words[W_H] = 0; words[W_H] <= LAST_PAGE; words[W_H]++)
         for (uint16_t byte = 0; byte < 256; byte++)
             try_command(words, byte);

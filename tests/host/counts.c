@@ -28,8 +28,8 @@ static void try_steps(uint64_t count, const struct bus_phase *phase, uint16_t ev
     uint64_t words[MOST_WORDS];
     random_record(words);
     set_phase(words, phase);
-    words[W_COUNT] = count;
     set_record(words);
+    set_count(count);
     for (int i = 0; i < 5; i++)
         compare_step(event);
 }
@@ -40,8 +40,8 @@ static void try_run(uint64_t count, const uint16_t *list, size_t length)
     struct ran ran;
     random_record(words);
     words[W_PINS] = 0;
-    words[W_COUNT] = count;
     set_record(words);
+    set_count(count);
     compare_run(list, length, &ran);
     compare_run(list, length, &ran);
 }

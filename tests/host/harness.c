@@ -8,7 +8,7 @@
 #include <string.h>
 
 struct side {
-    struct lent record, memory, writers, events, done, unknown, out_of_range;
+    struct lent record, memory, writers, count, events, done, unknown, out_of_range;
 };
 
 static struct side model, library;
@@ -17,6 +17,7 @@ static struct side model, library;
 static struct {
     uint64_t record[MOST_WORDS];
     size_t record_len, memory_len, writers_len;
+    uint64_t count;
     uint64_t pins;
     unsigned event;
     const uint16_t *events;
@@ -30,6 +31,7 @@ static void print_lent(void)
     fprintf(stderr, "  record length %zu, memory length %zu, writers length %zu\n",
             call.record_len, call.memory_len, call.writers_len);
     print_record(call.record, call.record_len);
+    fprintf(stderr, "  count before: %llu\n", (unsigned long long)call.count);
 }
 
 static void print_reset(void)
@@ -60,6 +62,7 @@ static void map_side(struct side *side)
     map_lent(&side->record, MOST_WORDS * sizeof(uint64_t));
     map_lent(&side->memory, MOST_PLACES);
     map_lent(&side->writers, MOST_PLACES * sizeof(uint64_t));
+    map_lent(&side->count, sizeof(uint64_t));
     map_lent(&side->events, MOST_EVENTS * sizeof(uint16_t));
     map_lent(&side->done, sizeof(uint64_t));
     map_lent(&side->unknown, sizeof(uint64_t));
@@ -79,6 +82,7 @@ static void lend_side(struct side *side, enum where where)
     put_lent(&side->record, call.record_len * sizeof(uint64_t), where);
     put_lent(&side->memory, call.memory_len, where);
     put_lent(&side->writers, call.writers_len * sizeof(uint64_t), where);
+    put_lent(&side->count, sizeof(uint64_t), where);
     put_lent(&side->events, 0, where);
     put_lent(&side->done, sizeof(uint64_t), where);
     put_lent(&side->unknown, sizeof(uint64_t), where);
@@ -98,6 +102,7 @@ void lend(size_t record_len, size_t memory_len, size_t writers_len, enum where w
         state.memory[i] = (uint8_t)random64();
         state.writers[i] = random64();
     }
+    state.count = random_count();
     restore(&state);
 }
 
@@ -112,6 +117,13 @@ void set_record(const uint64_t *words)
 {
     memcpy(model.record.at, words, model.record.bytes);
     memcpy(library.record.at, words, library.record.bytes);
+    set_count(random_count());
+}
+
+void set_count(uint64_t count)
+{
+    *words_of(&model.count) = count;
+    *words_of(&library.count) = count;
 }
 
 uint64_t word_now(size_t place)
@@ -124,6 +136,7 @@ void save(struct state *state)
     memcpy(state->record, library.record.at, library.record.bytes);
     memcpy(state->memory, library.memory.at, library.memory.bytes);
     memcpy(state->writers, library.writers.at, library.writers.bytes);
+    state->count = *words_of(&library.count);
 }
 
 static void restore_side(struct side *side, const struct state *state)
@@ -131,6 +144,7 @@ static void restore_side(struct side *side, const struct state *state)
     memcpy(side->record.at, state->record, side->record.bytes);
     memcpy(side->memory.at, state->memory, side->memory.bytes);
     memcpy(side->writers.at, state->writers, side->writers.bytes);
+    *words_of(&side->count) = state->count;
 }
 
 void restore(const struct state *state)
@@ -143,7 +157,8 @@ void expect_state(const struct state *state)
 {
     if (memcmp(state->record, library.record.at, library.record.bytes) != 0
         || memcmp(state->memory, library.memory.at, library.memory.bytes) != 0
-        || memcmp(state->writers, library.writers.at, library.writers.bytes) != 0)
+        || memcmp(state->writers, library.writers.at, library.writers.bytes) != 0
+        || state->count != *words_of(&library.count))
         fail("the run and the single steps end in different states");
 }
 
@@ -162,6 +177,7 @@ static void note_call(const char *name, void (*describe)(void))
 {
     next_call(name, describe);
     memcpy(call.record, library.record.at, library.record.bytes);
+    call.count = *words_of(&library.count);
 }
 
 static uint64_t compare_call(uint64_t ours, uint64_t theirs)
@@ -170,6 +186,7 @@ static uint64_t compare_call(uint64_t ours, uint64_t theirs)
     compare_lent("record", sizeof(uint64_t), &model.record, &library.record);
     compare_lent("memory", sizeof(uint8_t), &model.memory, &library.memory);
     compare_lent("writers", sizeof(uint64_t), &model.writers, &library.writers);
+    compare_lent("count", sizeof(uint64_t), &model.count, &library.count);
     count_call();
     return theirs;
 }
@@ -189,10 +206,12 @@ uint64_t compare_step(uint16_t event)
     call.event = event;
     uint64_t theirs = pcf8820_step(words_of(&library.record), call.record_len,
                                    library.memory.at, call.memory_len,
-                                   words_of(&library.writers), call.writers_len, event);
+                                   words_of(&library.writers), call.writers_len,
+                                   words_of(&library.count), event);
     uint64_t ours = model_step(words_of(&model.record), call.record_len,
                                model.memory.at, call.memory_len,
-                               words_of(&model.writers), call.writers_len, event);
+                               words_of(&model.writers), call.writers_len,
+                               words_of(&model.count), event);
     return compare_call(ours, theirs);
 }
 
@@ -231,13 +250,15 @@ uint64_t compare_run(const uint16_t *events, size_t events_len, struct ran *ran)
     uint64_t theirs = pcf8820_run(words_of(&library.record), call.record_len,
                                   library.memory.at, call.memory_len,
                                   words_of(&library.writers), call.writers_len,
-                                  events_of(&library.events), events_len, words_of(&library.done),
-                                  words_of(&library.unknown), words_of(&library.out_of_range));
+                                  words_of(&library.count), events_of(&library.events), events_len,
+                                  words_of(&library.done), words_of(&library.unknown),
+                                  words_of(&library.out_of_range));
     uint64_t ours = model_run(words_of(&model.record), call.record_len,
                               model.memory.at, call.memory_len,
                               words_of(&model.writers), call.writers_len,
-                              events_of(&model.events), events_len, words_of(&model.done),
-                              words_of(&model.unknown), words_of(&model.out_of_range));
+                              words_of(&model.count), events_of(&model.events), events_len,
+                              words_of(&model.done), words_of(&model.unknown),
+                              words_of(&model.out_of_range));
     compare_call(ours, theirs);
     compare_ran(ran);
     compare_lent("events", sizeof(uint16_t), &model.events, &library.events);

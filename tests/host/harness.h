@@ -1,7 +1,7 @@
 /* The chip's calls: reset, step and run, made on the library and on the model, and the comparison of
  * everything they give and change.
  *
- * Each side has its own record, memory, writers, events and numbers of a run. */
+ * Each side has its own record, memory, writers, count, events and numbers of a run. */
 #ifndef HARNESS_H
 #define HARNESS_H
 
@@ -14,7 +14,7 @@
 
 enum {
     PLACES = 1717, MOST_PLACES = PLACES + 1,
-    RECORD_LEN = 35, MOST_WORDS = RECORD_LEN + 1,
+    RECORD_LEN = 34, MOST_WORDS = RECORD_LEN + 1,
     MOST_EVENTS = 80000
 };
 
@@ -26,11 +26,12 @@ struct ran {
     uint64_t done, unknown, out_of_range;
 };
 
-/* The record and the memories, kept aside. */
+/* The record, the memories and the count, kept aside. */
 struct state {
     uint64_t record[MOST_WORDS];
     uint8_t memory[MOST_PLACES];
     uint64_t writers[MOST_PLACES];
+    uint64_t count;
 };
 
 void harness_start(void);
@@ -41,17 +42,21 @@ void lend(size_t record_len, size_t memory_len, size_t writers_len, enum where w
 /* Lends buffers of the right lengths, by turns at the start and at the end of their pages. */
 void lend_usual(void);
 
-/* Gives both sides this record, as many words as the lent one has. words has MOST_WORDS words. */
+/* Gives both sides this record, as many words as the lent one has, and a random count. words has
+ * MOST_WORDS words. */
 void set_record(const uint64_t *words);
+
+/* Gives both sides this count. */
+void set_count(uint64_t count);
 
 /* A word of the record as it is now. */
 uint64_t word_now(size_t place);
 
-/* Keeps the record and the memories as they are now, and gives them back to both sides. */
+/* Keeps the record, the memories and the count as they are now, and gives them back to both sides. */
 void save(struct state *state);
 void restore(const struct state *state);
 
-/* Fails unless record and memories are now as in this state. */
+/* Fails unless record, memories and count are now as in this state. */
 void expect_state(const struct state *state);
 
 /* Fails unless the numbers of a run are the right ones. */

@@ -81,9 +81,9 @@ mutant 'page return in page 0 told as unknown' \
 mutant 'row block swapping told as unknown' \
     's/^    effect->answer = TAKEN;/    effect->answer = row->page == 4 \&\& byte >= 64 ? UNKNOWN : TAKEN;/'
 mutant 'command that changes nothing told as unknown' \
-    's/^    const struct effect \*effect = .*/& struct chip was = *chip;/; s/return effect->answer;/return memcmp(was.now, chip->now, COUNT) ? TAKEN : effect->answer == TAKEN ? UNKNOWN : effect->answer;/'
+    's/^    const struct effect \*effect = .*/& struct chip was = *chip;/; s/return effect->answer;/return memcmp(was.now, chip->now, WORDS) ? TAKEN : effect->answer == TAKEN ? UNKNOWN : effect->answer;/'
 mutant 'register set to what it held told as unknown' \
-    's/^    const struct effect \*effect = .*/& struct chip was = *chip;/; s/return effect->answer;/return effect->fields \&\& memcmp(was.now, chip->now, COUNT) == 0 ? UNKNOWN : effect->answer;/'
+    's/^    const struct effect \*effect = .*/& struct chip was = *chip;/; s/return effect->answer;/return effect->fields \&\& memcmp(was.now, chip->now, WORDS) == 0 ? UNKNOWN : effect->answer;/'
 mutant 'answer by the page after the command' \
     's/return effect->answer;/return effects[chip->now[H]][byte].answer;/'
 mutant 'answer as in page 0' 's/return effect->answer;/return effects[0][byte].answer;/'
@@ -107,6 +107,23 @@ mutant 'longer record taken' 's/if (record_len != WORDS)$/if (record_len < WORDS
 mutant 'record word cut to 32 bits' 's/record\[w\] > limit/(uint32_t)record[w] > limit/'
 mutant 'RS taken in a phase without one' 's/return phase_has_rs ||.*/return true;/'
 mutant 'last event number not given' 's/count == UINT64_MAX/count >= UINT64_MAX - 1/'
+
+# The count beside the record.
+for call in step run; do
+    in_call="/^uint64_t model_$call(/,/^}/"
+    mutant "$call: count not handed back" "$in_call s/\*count = chip.count;//"
+    mutant "$call: count of 32 bits" "$in_call s/\*count = chip.count;/*count = (uint32_t)chip.count;/"
+    mutant "$call: count one behind" "$in_call s/\*count = chip.count;/*count = chip.count - 1;/"
+    mutant "$call: count of the call before" \
+        "$in_call { s/.count = \*count/.count = kept/; s/^    struct chip chip/    static uint64_t kept; &/; s/\*count = chip.count;/*count = kept = chip.count;/ }"
+    mutant "$call: count rises at refusal 1" "$in_call s/return BAD_MEMORY;/return ++*count, BAD_MEMORY;/"
+    mutant "$call: count rises at refusal 2" "$in_call s/return BAD_RECORD;/return ++*count, BAD_RECORD;/"
+    mutant "$call: write past the count" "$in_call s/\*count = chip.count;/& count[1] = 0;/"
+    mutant "$call: write before the count" "$in_call s/\*count = chip.count;/& count[-1] = 0;/"
+done
+mutant 'count of a refused run not handed back' 's/^    \*count = chip.count;/    if (refusal == 0) &/'
+mutant 'count of a run raised by 1' 's/^    \*count = chip.count;/    *count += i > 0;/'
+mutant 'a word more at reset' '/^uint64_t model_reset(/,/^}/ s/store(&chip, record);/& record[WORDS] = 0;/'
 
 # Runs.
 mutant 'run takes its first event only' 's/i < events_len;/i < events_len \&\& i < 1;/'
@@ -161,7 +178,7 @@ done
 mutant 'write past the memory' 's/^    chip->memory\[place\] = byte;/& chip->memory[PLACES] = byte;/'
 mutant 'write before the writers' 's/^    chip->writers\[place\] = .*/& chip->writers[-1] = 0;/'
 mutant 'read past the record' \
-    's/^    chip->count = record\[COUNT\];/& (void)*(volatile const uint64_t *)(record + WORDS);/'
+    's/^    bool phase_has_rs = .*/& (void)*(volatile const uint64_t *)(record + WORDS);/'
 mutant 'events changed' \
     's/take_event(&chip, events\[i\]);/& ((uint16_t *)events)[i] = 0;/'
 

@@ -5,7 +5,7 @@
 #define IS(name, number) _Static_assert(PCF8820_##name == (number), #name " is " #number)
 
 /* Sizes. */
-IS(RECORD_WORDS, 35);
+IS(RECORD_WORDS, 34);
 IS(COLUMNS, 101);
 IS(BANKS, 17);
 IS(PLACES, 1717);
@@ -49,7 +49,6 @@ IS(WORD_STATUS, 30);
 IS(WORD_LAST_RS, 31);
 IS(WORD_PHASE, 32);
 IS(WORD_PHASE_RS, 33);
-IS(WORD_COUNT, 34);
 
 /* Phases. */
 IS(PHASE_IDLE, 0);

@@ -16,8 +16,7 @@ static const struct word word_table[RECORD_LEN] = {
     { "s", 7 }, { "tc", 7 }, { "sm", 1 }, { "vop", 127 }, { "gr", 3 },
     { "gs0", 63 }, { "gs1", 63 }, { "gs2", 63 }, { "gs3", 63 },
     { "dof", 1 }, { "dm", 1 }, { "ec", 1 }, { "oc", 1 },
-    { "pins", 3 }, { "tr", 255 }, { "last_rs", 1 }, { "phase", 7 }, { "phase_rs", 1 },
-    { "count", UINT64_MAX }
+    { "pins", 3 }, { "tr", 255 }, { "last_rs", 1 }, { "phase", 7 }, { "phase_rs", 1 }
 };
 
 const struct bus_phase bus_phases[PHASES] = {
@@ -60,14 +59,13 @@ void reset_record(uint64_t *words, uint64_t pins)
 /* Every word at its limit; the phase is endless bytes with RS 1, the highest that has an RS. */
 void full_record(uint64_t *words)
 {
-    for (size_t w = 0; w < W_COUNT; w++)
+    for (size_t w = 0; w < RECORD_LEN; w++)
         words[w] = word_limit(w);
     set_phase(words, &bus_phases[7]);
-    words[W_COUNT] = UINT64_MAX - 1;
     words[RECORD_LEN] = random64();
 }
 
-/* X and Y stand at an edge more often than by chance. The count leaves room for an event. */
+/* X and Y stand at an edge more often than by chance. */
 void random_record(uint64_t *words)
 {
     for (size_t w = 0; w < W_PHASE; w++)
@@ -77,10 +75,13 @@ void random_record(uint64_t *words)
     if (below(2))
         words[W_Y] = below(2) ? 16 : 0;
     set_phase(words, &bus_phases[below(PHASES)]);
-    words[W_COUNT] = random64() >> below(64);
-    if (words[W_COUNT] == UINT64_MAX)
-        words[W_COUNT] = 0;
     words[RECORD_LEN] = random64();
+}
+
+uint64_t random_count(void)
+{
+    uint64_t count = random64() >> below(64);
+    return count == UINT64_MAX ? 0 : count;
 }
 
 void set_phase(uint64_t *words, const struct bus_phase *phase)

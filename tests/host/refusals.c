@@ -7,7 +7,7 @@
 #include <string.h>
 
 static const size_t memory_lens[] = { 0, 1716, 1717, 1718 };
-static const size_t record_lens[] = { 0, 34, 35, 36 };
+static const size_t record_lens[] = { 0, 33, 34, 35 };
 static const uint64_t counts[] = { 5, UINT64_MAX };
 static const uint16_t single_events[] = { 0x55, 256, 260, 600, 261, 768, 65535 };
 
@@ -15,32 +15,33 @@ static const uint16_t good_event[] = { 256 };
 static const uint16_t bad_event[] = { 511 };
 static const uint16_t cut_events[] = { 256, 0x78, 0x40, 0x11, 768, 0x22, 257 };
 
-static void run_lists(const uint64_t *words)
+static void run_list(const uint64_t *words, uint64_t count, const uint16_t *events, size_t length)
 {
     struct ran ran;
     set_record(words);
-    compare_run(good_event, 0, &ran);
-    set_record(words);
-    compare_run(good_event, 1, &ran);
-    set_record(words);
-    compare_run(bad_event, 1, &ran);
-    set_record(words);
-    compare_run(cut_events, sizeof cut_events / sizeof cut_events[0], &ran);
+    set_count(count);
+    compare_run(events, length, &ran);
+}
+
+static void run_lists(const uint64_t *words, uint64_t count)
+{
+    run_list(words, count, good_event, 0);
+    run_list(words, count, good_event, 1);
+    run_list(words, count, bad_event, 1);
+    run_list(words, count, cut_events, sizeof cut_events / sizeof cut_events[0]);
 }
 
 /* One record, with each count and each event. */
-static void try_record(uint64_t *words)
+static void try_record(const uint64_t *words)
 {
-    uint64_t count = words[W_COUNT];
     for (size_t c = 0; c < sizeof counts / sizeof counts[0]; c++) {
-        words[W_COUNT] = counts[c];
         for (size_t e = 0; e < sizeof single_events / sizeof single_events[0]; e++) {
             set_record(words);
+            set_count(counts[c]);
             compare_step(single_events[e]);
         }
-        run_lists(words);
+        run_lists(words, counts[c]);
     }
-    words[W_COUNT] = count;
 }
 
 static void try_value(const uint64_t *good, size_t word, uint64_t value)
@@ -87,7 +88,7 @@ static void try_records(void)
     try_phases(good);
     full_record(good);
     try_record(good);
-    for (size_t word = 0; word < W_COUNT; word++) {
+    for (size_t word = 0; word < RECORD_LEN; word++) {
         random_record(good);
         try_word(good, word);
     }

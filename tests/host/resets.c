@@ -9,7 +9,7 @@ static const uint64_t pins[] = {
     UINT64_MAX - 3, UINT64_MAX
 };
 
-static const size_t record_lens[] = { 0, 1, 29, 34, 35, 36 };
+static const size_t record_lens[] = { 0, 1, 29, 33, 34, 35 };
 
 static void reset_noise(uint64_t value)
 {

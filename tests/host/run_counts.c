@@ -77,8 +77,8 @@ static void set_reset_record(uint64_t count)
 {
     uint64_t words[MOST_WORDS];
     reset_record(words, 0);
-    words[W_COUNT] = count;
     set_record(words);
+    set_count(count);
 }
 
 static void try_lists(void)

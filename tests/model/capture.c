@@ -102,8 +102,8 @@ uint64_t play_capture(FILE *file, struct played *played)
         uint64_t done, unknown, out_of_range;
         size_t count = take_lines(&reader, events, &stopped);
         uint64_t refusal = model_run(played->record, WORDS, played->memory, PLACES,
-                                     played->writers, PLACES, events, count, &done,
-                                     &unknown, &out_of_range);
+                                     played->writers, PLACES, &played->count,
+                                     events, count, &done, &unknown, &out_of_range);
         lines += done;
         if (refusal != 0 || stopped == BAD_LINE)
             return lines + 1;
@@ -125,7 +125,7 @@ uint64_t play_events(FILE *file, struct played *played, told *tell)
             return event == BAD_LINE ? line : 0;
         memcpy(earlier, played->record, sizeof earlier);
         uint64_t answer = model_step(played->record, WORDS, played->memory, PLACES,
-                                     played->writers, PLACES, (uint16_t)event);
+                                     played->writers, PLACES, &played->count, (uint16_t)event);
         if (answer < NOTHING)
             return line;
         tell(earlier, played, event, answer);

@@ -13,6 +13,7 @@ struct played {
     uint64_t record[WORDS];
     uint8_t memory[PLACES];
     uint64_t writers[PLACES];
+    uint64_t count;
 };
 
 /* Gives 0, or the number of the first bad line. After a bad line the rest is not read. */

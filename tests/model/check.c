@@ -25,6 +25,7 @@ struct chip {
     uint64_t record[WORDS + 1];
     uint8_t memory[PLACES];
     uint64_t writers[PLACES];
+    uint64_t count;
 };
 
 static struct text text;
@@ -229,7 +230,7 @@ static uint64_t answer_to(unsigned page, unsigned byte)
     chip.record[PHASE] = 5;
     commands++;
     return model_step(chip.record, WORDS, chip.memory, PLACES, chip.writers, PLACES,
-                      (uint16_t)byte);
+                      &chip.count, (uint16_t)byte);
 }
 
 static void check_answers(unsigned page)
@@ -266,6 +267,7 @@ static struct chip random_chip(void)
 {
     struct chip chip;
     random_record(chip.record);
+    chip.count = random_count();
     for (size_t place = 0; place < PLACES; place++) {
         chip.memory[place] = (uint8_t)random64();
         chip.writers[place] = random64();
@@ -298,14 +300,15 @@ static void check_end(const struct chip *start, const struct chip *end, uint64_t
     for (int w = 0; w <= OC; w++)
         require(w == H || w == X || w == Y || plain.record[w] == end->record[w],
                 "a register of the plain reading");
-    require(end->record[COUNT] == start->record[COUNT] + length, "the count");
+    require(end->count == start->count + length, "the count");
 }
 
 static bool equal_chips(const struct chip *one, const struct chip *other)
 {
     return memcmp(one->record, other->record, sizeof one->record) == 0
            && memcmp(one->memory, other->memory, sizeof one->memory) == 0
-           && memcmp(one->writers, other->writers, sizeof one->writers) == 0;
+           && memcmp(one->writers, other->writers, sizeof one->writers) == 0
+           && one->count == other->count;
 }
 
 /* A byte in phase 4 or 5 with RS 0 is a command. */
@@ -327,11 +330,11 @@ static void play_text(const struct chip *start)
     for (uint64_t i = 0; i < length; i++) {
         uint64_t right = good_answer(stepped.record, events[i]);
         require(model_step(stepped.record, WORDS, stepped.memory, PLACES, stepped.writers, PLACES,
-                           events[i]) == right,
+                           &stepped.count, events[i]) == right,
                 "every byte is acknowledged, and every command taken");
     }
     uint64_t refusal = model_run(run.record, WORDS, run.memory, PLACES, run.writers, PLACES,
-                                 events, length, &done, &unknown, &out_of_range);
+                                 &run.count, events, length, &done, &unknown, &out_of_range);
     require(refusal == 0 && done == length, "the run takes every event");
     require(unknown == 0 && out_of_range == 0, "no command is counted as unknown or out of range");
     require(equal_chips(&run, &stepped), "the run ends like the steps");
@@ -345,7 +348,7 @@ static void play_random(int times, uint64_t most_lines)
         struct chip chip = random_chip();
         random_list(&text, below(most_lines + 1));
         if (i % 8 == 0)
-            chip.record[COUNT] = UINT64_MAX - compile_text(&chip);
+            chip.count = UINT64_MAX - compile_text(&chip);
         play_text(&chip);
     }
 }

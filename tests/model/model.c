@@ -12,7 +12,7 @@ enum { GS = WORDS };
 
 enum refusal { BAD_MEMORY = 1, BAD_RECORD, BAD_EVENT, COUNT_FULL };
 
-/* The largest allowed value of each word but the count. */
+/* The largest allowed value of each word. */
 static const uint8_t limit[] = {
     [H] = 4, [DO] = 1, [PD] = 1, [V] = 1, [D] = 1, [E] = 1, [MX] = 1, [MY] = 1, [PS] = 1,
     [X] = 100, [Y] = 16, [BS] = 7, [BSH] = 1, [DP] = 7, [PRS] = 1, [HVE] = 1, [S] = 7, [TC] = 7,
@@ -22,9 +22,9 @@ static const uint8_t limit[] = {
     [GS] = 63
 };
 
-/* The chip while it works: every word but the count fits a byte. */
+/* The chip while it works: every word of its record fits a byte. */
 struct chip {
-    uint8_t now[COUNT];
+    uint8_t now[WORDS];
     uint64_t count;
     uint8_t *memory;
     uint64_t *writers;
@@ -323,21 +323,19 @@ static bool load(struct chip *chip, const uint64_t *record, size_t record_len)
 {
     if (record_len != WORDS)
         return false;
-    for (int w = 0; w < COUNT; w++) {
+    for (int w = 0; w < WORDS; w++) {
         if (record[w] > limit[w])
             return false;
         chip->now[w] = (uint8_t)record[w];
     }
-    chip->count = record[COUNT];
     bool phase_has_rs = chip->now[PHASE] == ONE_BYTE || chip->now[PHASE] == ENDLESS;
     return phase_has_rs || chip->now[PHASE_RS] == 0;
 }
 
 static void store(const struct chip *chip, uint64_t *record)
 {
-    for (int w = 0; w < COUNT; w++)
+    for (int w = 0; w < WORDS; w++)
         record[w] = chip->now[w];
-    record[COUNT] = chip->count;
 }
 
 /* ---- The calls ---------------------------------------------------------------------------- */
@@ -363,9 +361,9 @@ uint64_t model_reset(uint64_t *record, size_t record_len, uint64_t pins)
 uint64_t model_step(uint64_t *record, size_t record_len,
                     uint8_t *memory, size_t memory_len,
                     uint64_t *writers, size_t writers_len,
-                    uint16_t event)
+                    uint64_t *count, uint16_t event)
 {
-    struct chip chip = { .memory = memory, .writers = writers };
+    struct chip chip = { .count = *count, .memory = memory, .writers = writers };
     if (!effects_ready)
         fill_effects();
     if (memory_len != PLACES || writers_len != PLACES)
@@ -373,18 +371,20 @@ uint64_t model_step(uint64_t *record, size_t record_len,
     if (!load(&chip, record, record_len))
         return BAD_RECORD;
     uint64_t result = take_event(&chip, event);
-    if (!is_refusal(result))
+    if (!is_refusal(result)) {
         store(&chip, record);
+        *count = chip.count;
+    }
     return result;
 }
 
 uint64_t model_run(uint64_t *record, size_t record_len,
                    uint8_t *memory, size_t memory_len,
                    uint64_t *writers, size_t writers_len,
-                   const uint16_t *events, size_t events_len,
+                   uint64_t *count, const uint16_t *events, size_t events_len,
                    uint64_t *done, uint64_t *unknown, uint64_t *out_of_range)
 {
-    struct chip chip = { .memory = memory, .writers = writers };
+    struct chip chip = { .count = *count, .memory = memory, .writers = writers };
     uint64_t refusal = 0;
     uint64_t unknown_commands = 0;
     uint64_t commands_out_of_range = 0;
@@ -409,6 +409,7 @@ uint64_t model_run(uint64_t *record, size_t record_len,
         commands_out_of_range += result == OUT_OF_RANGE;
     }
     store(&chip, record);
+    *count = chip.count;
     *done = i;
     *unknown = unknown_commands;
     *out_of_range = commands_out_of_range;

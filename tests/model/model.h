@@ -14,12 +14,12 @@ uint64_t model_reset(uint64_t *record, size_t record_len, uint64_t pins);
 uint64_t model_step(uint64_t *record, size_t record_len,
                     uint8_t *memory, size_t memory_len,
                     uint64_t *writers, size_t writers_len,
-                    uint16_t event);
+                    uint64_t *count, uint16_t event);
 
 uint64_t model_run(uint64_t *record, size_t record_len,
                    uint8_t *memory, size_t memory_len,
                    uint64_t *writers, size_t writers_len,
-                   const uint16_t *events, size_t events_len,
+                   uint64_t *count, const uint16_t *events, size_t events_len,
                    uint64_t *done, uint64_t *unknown, uint64_t *out_of_range);
 
 /* Whether these words stand for a chip's record. */

@@ -37,15 +37,16 @@ static void print_number(const char *name, uint64_t number)
     printf("%s\t%" PRIu64 "\n", name, number);
 }
 
-static void print_state(const uint64_t *record)
+static void print_state(const struct played *played)
 {
+    const uint64_t *record = played->record;
     for (int word = H; word <= OC; word++)
         print_number(register_names[word], record[word]);
     print_number("pins", record[SA]);
     print_number("status", record[TR]);
     print_number("last rs", record[LAST_RS]);
     printf("phase\t%s\n", phase_words[record[PHASE]][record[PHASE_RS]]);
-    print_number("count", record[COUNT]);
+    print_number("count", played->count);
     print_number("acknowledged", acknowledged);
     print_number("not acknowledged", not_acknowledged);
 }
@@ -60,6 +61,6 @@ int main(int argc, char **argv)
     if (bad_line != 0)
         printf("refused\t%" PRIu64 "\n", bad_line);
     else
-        print_state(played.record);
+        print_state(&played);
     return 0;
 }

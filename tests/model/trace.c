@@ -138,7 +138,7 @@ static void print_answer(uint64_t answer)
 static void print_line(const uint64_t *before, const struct played *after, unsigned event,
                        uint64_t answer)
 {
-    printf("%" PRIu64 "\t%u\t", after->record[COUNT], event);
+    printf("%" PRIu64 "\t%u\t", after->count, event);
     print_event(before, after, event);
     printf("\t");
     print_answer(answer);

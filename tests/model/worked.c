@@ -6,7 +6,7 @@
  *   answers A1 A2 ...                one for each event, up to the first refused one
  *   done N refusal R unknown U out-of-range O
  *                                    of a run over the whole list on a fresh chip, R 0 if none
- *   record W0 W1 ... W34             after that run
+ *   record W0 W1 ... W33 COUNT       after that run, the event count behind the record
  *   cell COLUMN BANK BYTE EVENT      one for each written place, by bank, then column
  *   pulses ROW 5 P0 P1 P2 P3         one for each of the glass's rows 8 to 11 that is lit in column 5 */
 #include "example.h"
@@ -17,7 +17,7 @@
 #include <stdlib.h>
 #include <string.h>
 
-enum { WORDS = 35, COLUMNS = 101, BANKS = 17, PLACES = COLUMNS * BANKS, MOST_EVENTS = 256 };
+enum { WORDS = 34, COLUMNS = 101, BANKS = 17, PLACES = COLUMNS * BANKS, MOST_EVENTS = 256 };
 
 enum { START = 256, STOP = 257 };
 
@@ -25,6 +25,7 @@ struct chip {
     uint64_t record[WORDS];
     uint8_t memory[PLACES];
     uint64_t writers[PLACES];
+    uint64_t count;
 };
 
 struct list {
@@ -130,7 +131,7 @@ static void print_answers(const struct list *list, uint64_t pins)
     printf("answers");
     for (size_t i = 0; i < list->length; i++) {
         uint64_t answer = model_step(chip.record, WORDS, chip.memory, PLACES, chip.writers, PLACES,
-                                     list->events[i]);
+                                     &chip.count, list->events[i]);
         printf(" %llu", (unsigned long long)answer);
         if (answer < 256)
             break;
@@ -143,7 +144,7 @@ static void print_record(const struct chip *chip)
     printf("record");
     for (int w = 0; w < WORDS; w++)
         printf(" %llu", (unsigned long long)chip->record[w]);
-    printf("\n");
+    printf(" %llu\n", (unsigned long long)chip->count);
 }
 
 static void print_cells(const struct chip *chip)
@@ -177,7 +178,7 @@ static void print_case(const char *name, uint64_t pins, const struct list *list)
     print_answers(list, pins);
     start(&chip, pins);
     refusal = model_run(chip.record, WORDS, chip.memory, PLACES, chip.writers, PLACES,
-                        list->events, list->length, &done, &unknown, &out_of_range);
+                        &chip.count, list->events, list->length, &done, &unknown, &out_of_range);
     printf("done %llu refusal %llu unknown %llu out-of-range %llu\n", (unsigned long long)done,
            (unsigned long long)refusal, (unsigned long long)unknown,
            (unsigned long long)out_of_range);

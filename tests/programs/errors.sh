@@ -16,7 +16,7 @@ mutant 'column 100 left out' 's/column < COLUMNS/column < COLUMNS - 1/'
 mutant 'events counted from 0' 's/played->writers\[place\]);/played->writers[place] - 1);/'
 mutant 'event numbers of 8 bits' 's/played->writers\[place\]);/(uint64_t)(uint8_t)played->writers[place]);/'
 mutant 'no header' 's/printf("column.*/(void)0;/'
-mutant 'no header without cells' 's/printf("column/if (played->record[COUNT]) &/'
+mutant 'no header without cells' 's/printf("column/if (played->count) &/'
 mutant 'blanks for tabs' 's/column.tbank/column bank/'
 mutant 'last newline left out' 's/%" PRIu64 ".n", column/%" PRIu64, column/'
 mutant 'header before a refusal' 's/printf("refused/printf("column\\n"), &/'
@@ -125,10 +125,12 @@ mutant 'registers left out where a cell differs' \
     's/^    print_registers(&first/    if (!__builtin_memcmp(first.memory, second.memory, PLACES)) &/'
 mutant 'first register only' \
     's/^    for (int word/    bool told = false; &/; s/if (\(first->record.*\))/for (; \1 \&\& !told; told = true)/'
-for word in SA TR LAST_RS PHASE COUNT; do
+for word in SA TR LAST_RS PHASE; do
     mutant "$word compared too" \
         "s/register_names\[word\]/word > OC ? \"$word\" : &/; s/word <= OC; word++/word <= $word; word += word == OC ? $word - OC : 1/"
 done
+mutant 'count compared too' \
+    's/^    print_registers(&first.*/& if (first.count != second.count) printf("COUNT\\t%" PRIu64 "\\t%" PRIu64 "\\n", first.count, second.count);/'
 mutant 'second capture judged first' \
     's/!play(first_file, 1, &first) || !play(second_file, 2, &second)/!play(second_file, 2, \&second) || !play(first_file, 1, \&first)/'
 mutant 'both refusals told' 's/!play(first_file, 1, &first) ||/!play(first_file, 1, \&first) |/'
@@ -150,7 +152,7 @@ mutant 'second capture played on the memory of the first' \
 mutant 'second capture played on the registers of the first' \
     's/^    while (stopped/    static uint64_t before[OC + 1]; static bool again; if (again) memcpy(played->record, before, sizeof before); &/; s/^    return 0;/    memcpy(before, played->record, sizeof before); again = true; &/'
 mutant 'events of the second capture counted on' \
-    's/^    while (stopped/    static uint64_t count; played->record[COUNT] = count; &/; s/^    return 0;/    count = played->record[COUNT]; &/'
+    's/^    while (stopped/    static uint64_t count; played->count = count; &/; s/^    return 0;/    count = played->count; &/'
 mutant 'lines of the second capture counted on' 's/uint64_t lines = 1;/static uint64_t lines; lines++;/'
 
 groups=lists

@@ -57,8 +57,6 @@ mutant 'clocks given with 10' 's/return TOO_SHORT;/return *clocks = 9 * counted.
 mutant 'length left as it was' 's/^    \*length = 0;//'
 mutant 'clocks left as they were' 's/^    \*clocks = 0;//'
 mutant 'line left as it was' 's/^    \*line = 0;//'
-mutant 'count looked at' \
-    's/^    uint64_t refusal = list_refusal/    if (record[COUNT] == UINT64_MAX) return 4; &/'
 mutant 'lines looked at before record' \
     's/if (!model_allowed(record, record_len))/if (list_refusal(text, text_len, line)) return list_refusal(text, text_len, line); &/'
 mutant 'record not looked at' 's/!model_allowed(record, record_len)/record_len != WORDS/'

@@ -70,8 +70,14 @@ static void play_by_steps(const struct compiled *compiled)
     expect_plain();
 }
 
+/* How the text is played: whether the count leaves just the room that is needed, and whether event by
+ * event too. */
+struct way {
+    bool full_count, steps;
+};
+
 /* The text, from this record and random memories. Streams too long for the buffers are left out. */
-static void play(const uint64_t *words, bool steps)
+static void play(const uint64_t *words, struct way way)
 {
     struct compiled compiled;
     if (compare_list(words, &text, &compiled) != 0)
@@ -80,19 +86,15 @@ static void play(const uint64_t *words, bool steps)
         return;
     lend_usual();
     set_record(words);
+    if (way.full_count)
+        set_count(UINT64_MAX - compiled.length);
     save(&before);
     read_plainly();
     play_by_run(&compiled);
-    if (!steps)
+    if (!way.steps)
         return;
     restore(&before);
     play_by_steps(&compiled);
-}
-
-/* The count leaves just the room that is needed. */
-static void fill_count(uint64_t *words)
-{
-    words[W_COUNT] = UINT64_MAX - needed(words, &text);
 }
 
 static void try_random(int times, uint64_t most_lines)
@@ -101,9 +103,7 @@ static void try_random(int times, uint64_t most_lines)
     for (int i = 0; i < times; i++) {
         random_record(words);
         random_list(&text, below(most_lines + 1));
-        if (i % 4 == 0)
-            fill_count(words);
-        play(words, i % 8 == 0);
+        play(words, (struct way) { .full_count = i % 4 == 0, .steps = i % 8 == 0 });
     }
 }
 
@@ -122,7 +122,7 @@ static void try_starts(void)
                     add_random_fill(&text);
                 else if (i == 1)
                     add_random_set(&text);
-                play(words, true);
+                play(words, (struct way) { .steps = true });
             }
 }
 
@@ -138,7 +138,7 @@ static void try_whole_glass(void)
         clear_text(&text);
         add_fill(&text, 0, 100, 0, 16, 0x1D);
         add_fill(&text, 1, 99, 0, 15, 0xB1);
-        play(words, true);
+        play(words, (struct way) { .steps = true });
     }
 }
 

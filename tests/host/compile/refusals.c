@@ -6,7 +6,7 @@
 
 #include <string.h>
 
-static const size_t record_lens[] = { 0, 1, 34, 35, 36 };
+static const size_t record_lens[] = { 0, 1, 33, 34, 35 };
 
 /* The texts, each with one more fault than those before it. */
 enum { EMPTY, GOOD, FRAGMENT, MALFORMED, OUT_OF_RANGE, LATE, TOO_LONG, TOO_LONG_AND_BAD, TEXTS };
@@ -80,14 +80,13 @@ static void try_value(size_t word, uint64_t value, bool record)
 static void try_word(size_t word)
 {
     uint64_t limit = word_limit(word);
-    bool any = word == W_COUNT;
     try_value(word, limit, true);
-    try_value(word, limit + 1, any);
-    try_value(word, 256 + limit, any);
-    try_value(word, (uint64_t)1 << 32, any);
-    try_value(word, ((uint64_t)1 << 32) + limit, any);
-    try_value(word, (uint64_t)1 << 63, any);
-    try_value(word, UINT64_MAX, any);
+    try_value(word, limit + 1, false);
+    try_value(word, 256 + limit, false);
+    try_value(word, (uint64_t)1 << 32, false);
+    try_value(word, ((uint64_t)1 << 32) + limit, false);
+    try_value(word, (uint64_t)1 << 63, false);
+    try_value(word, UINT64_MAX, false);
 }
 
 /* Every phase with every RS, allowed or not. */
@@ -113,7 +112,7 @@ void test_refusals(void)
             random_record(words);
             try_record(words, record_lens[r], record_lens[r] == RECORD_LEN);
         }
-    for (size_t word = 0; word <= W_COUNT; word++)
+    for (size_t word = 0; word < RECORD_LEN; word++)
         try_word(word);
     try_phases();
 }

@@ -8,7 +8,7 @@ static const size_t out_lens[] = {
 };
 
 static const size_t memory_lens[] = { 0, 1716, 1717, 1718 };
-static const size_t record_lens[] = { 0, 34, 35, 36 };
+static const size_t record_lens[] = { 0, 33, 34, 35 };
 
 static const uint64_t rows[] = {
     0, 33, 66, 67, 100, 255, 256, 65536, 0xFFFFFFFFu, 0x100000000u, 0x100000000u + 66,
@@ -27,7 +27,7 @@ static void try_record(const uint64_t *words)
 static void try_words(void)
 {
     uint64_t words[MOST_WORDS];
-    for (size_t word = 0; word < W_COUNT; word++) {
+    for (size_t word = 0; word < RECORD_LEN; word++) {
         random_record(words);
         words[word] = word_limit(word) + 1;
         glass_record(words);
