@@ -64,21 +64,22 @@
  *
  * The event count
  *
- * The host holds it beside the record, as one word, and hands it to pcf8820_step and pcf8820_run by
- * pointer. Every accepted event first adds 1 to it; the sum is the event's number. A refused event
- * leaves it as it is. A host that begins with pcf8820_reset sets its count to 0 itself.
+ * The host holds it beside the record, as one word, and hands it by pointer to the calls that take
+ * events. Every accepted event first adds 1 to it; the sum is the event's number. A refused event
+ * leaves it as it is. A host that begins with pcf8820_reset sets its count to 0 itself. Four chips on
+ * one bus have one count.
  *
- * Refusals by the chip (those of the glass and of drawing lists stand with their calls)
+ * Refusals by the chip (those of the bus, of the glass and of drawing lists stand with their calls)
  *
  *   1  the memory or the writers are not 1,717 long
  *   2  the record is not allowed
  *   3  the event is not one of those listed above
  *   4  the event count is 2^64 - 1
  *
- * Where more than one applies, the lowest is given. A refused call changes no buffer that it is lent,
- * with one exception: a run does the events before its refused one, and these stand. The numbers that
- * a call gives by pointer are results: they are set in every case, refused or not. The count is none
- * of them: it is handed in and back.
+ * Where more than one applies, the lowest is given; the bus and drawing lists have an order of their
+ * own. A refused call changes no buffer that it is lent, with one exception: a run does the events
+ * before its refused one, and these stand. The numbers that a call gives by pointer are results: they
+ * are set in every case, refused or not. The count is none of them: it is handed in and back.
  *
  * Every length counts elements, not bytes. The buffers of one call, the count and the results with
  * them, must be valid for their length, aligned, and must not overlap; nothing more is asked of them.
@@ -97,14 +98,15 @@ extern "C" {
 
 /* ---- names for the numbers */
 
-/* How many: words of a record; places of a memory, which are columns times banks; rows of the glass;
- * frames of a round, and bytes in the row buffer of pcf8820_pulse_row, which are columns times frames;
- * lines of a drawing list at most. */
+/* How many: words of a record; places of a memory, which are columns times banks; chips on a bus; rows
+ * of the glass; frames of a round, and bytes in the row buffer of pcf8820_pulse_row, which are columns
+ * times frames; lines of a drawing list at most. */
 enum pcf8820_size {
     PCF8820_RECORD_WORDS = 34,
     PCF8820_COLUMNS = 101,
     PCF8820_BANKS = 17,
     PCF8820_PLACES = 1717,
+    PCF8820_CHIPS = 4,
     PCF8820_ROWS = 67,
     PCF8820_FRAMES = 4,
     PCF8820_ROW_PULSES = 404,
@@ -172,7 +174,8 @@ enum pcf8820_event {
     PCF8820_EVENT_SENSOR = 512
 };
 
-/* What pcf8820_step gives for an accepted event. A byte that was read is PCF8820_ANSWER_READ + byte. */
+/* What a step gives for an accepted event, of one chip or of a bus. A byte that was read is
+ * PCF8820_ANSWER_READ + byte. */
 enum pcf8820_answer {
     PCF8820_ANSWER_NONE = 256,
     PCF8820_ANSWER_ACKNOWLEDGED = 257,
@@ -212,7 +215,9 @@ enum pcf8820_refusal {
     PCF8820_REFUSED_FIELD = 8,
     PCF8820_REFUSED_LONG_LIST = 9,
     PCF8820_REFUSED_SHORT_OUTPUT = 10,
-    PCF8820_REFUSED_ROW_BUFFER = 11
+    PCF8820_REFUSED_ROW_BUFFER = 11,
+    PCF8820_REFUSED_CHIPS = 12,
+    PCF8820_REFUSED_SENSOR_PINS = 13
 };
 
 /* ---- the calls */
@@ -259,6 +264,67 @@ uint64_t pcf8820_run(uint64_t *record, size_t record_len,
                      uint64_t *writers, size_t writers_len,
                      uint64_t *count, const uint16_t *events, size_t events_len,
                      uint64_t *done, uint64_t *unknown, uint64_t *out_of_range);
+
+/* A bus with four chips
+ *
+ * The chips 0 to 3 have a record, a memory and writers each, and one event count together. Every event
+ * but a sensor reading goes to all four, and each takes it as pcf8820_step would, by its own pins and
+ * phase. A sensor reading goes to the chip whose pins are handed in with it, and to no other.
+ *
+ * Refusals, in the order in which they are looked for, which is not that of their numbers:
+ *
+ *   1   one of the four memories or of the four writers is not 1,717 long
+ *   2   one of the four records is not allowed
+ *   12  two chips have the same pins; or the phases are not those of one bus, which are: all four
+ *       idle; all four awaiting an address; all four ignoring; or three ignoring, and one past its
+ *       address, in a phase of 3 to 7
+ *   3   the event is not one of those listed above
+ *   13  the event is a sensor reading, 512..767, and pins is above 3
+ *   4   the event count is 2^64 - 1
+ *
+ * A refused event changes none of the twelve buffers, nor the count. An accepted one leaves four chips
+ * that 12 lets pass. */
+
+/* Takes one event of the bus. The records, the memories and the count are changed in place. pins are
+ * those of the chip that a sensor reading is for; for other events any number will do.
+ *
+ * Gives
+ *   1..4, 12, 13   refused, nothing changed
+ *   256            accepted, no answer: START, STOP, reset pulse and sensor reading
+ *   257            an address, control or display byte, acknowledged by a chip
+ *   258            a byte from the master that no chip acknowledges
+ *   259, 260, 261  a command byte, acknowledged: what pcf8820_step gives for the chip that gets it
+ *   512 + b        events 258 and 259: the byte b (0..255) of the chip that is read, 255 if none is
+ *
+ * The writer of a display byte is the number that the one count gives the event. */
+uint64_t pcf8820_bus_step(
+    uint64_t *record0, size_t record0_len, uint8_t *memory0, size_t memory0_len, uint64_t *writers0, size_t writers0_len,
+    uint64_t *record1, size_t record1_len, uint8_t *memory1, size_t memory1_len, uint64_t *writers1, size_t writers1_len,
+    uint64_t *record2, size_t record2_len, uint8_t *memory2, size_t memory2_len, uint64_t *writers2, size_t writers2_len,
+    uint64_t *record3, size_t record3_len, uint8_t *memory3, size_t memory3_len, uint64_t *writers3, size_t writers3_len,
+    uint64_t *count, uint16_t event, uint64_t pins);
+
+/* One chip of a bus: the three buffers that it is made of, with their lengths. */
+struct pcf8820_chip {
+    uint64_t *record;
+    size_t record_len;
+    uint8_t *memory;
+    size_t memory_len;
+    uint64_t *writers;
+    size_t writers_len;
+};
+
+/* The same as pcf8820_bus_step, with the chips in an array. */
+static inline uint64_t pcf8820_bus(struct pcf8820_chip chips[4], uint64_t *count, uint16_t event,
+                                   uint64_t pins)
+{
+    return pcf8820_bus_step(
+        chips[0].record, chips[0].record_len, chips[0].memory, chips[0].memory_len, chips[0].writers, chips[0].writers_len,
+        chips[1].record, chips[1].record_len, chips[1].memory, chips[1].memory_len, chips[1].writers, chips[1].writers_len,
+        chips[2].record, chips[2].record_len, chips[2].memory, chips[2].memory_len, chips[2].writers, chips[2].writers_len,
+        chips[3].record, chips[3].record_len, chips[3].memory, chips[3].memory_len, chips[3].writers, chips[3].writers_len,
+        count, event, pins);
+}
 
 /* The glass
  *

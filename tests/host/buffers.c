@@ -65,8 +65,8 @@ static unsigned long long element(const struct lent *lent, size_t index, size_t 
     return lent->at[index];
 }
 
-static void compare_contents(const char *name, size_t width,
-                             const struct lent *ours, const struct lent *theirs)
+void compare_contents(const char *name, size_t width, const struct lent *ours,
+                      const struct lent *theirs)
 {
     if (memcmp(ours->at, theirs->at, ours->bytes) == 0)
         return;
@@ -89,11 +89,16 @@ static void check_canaries(const char *who, const char *name, const struct lent 
         fail("the %s wrote past the end of its %s", who, name);
 }
 
+void compare_canaries(const char *name, const struct lent *ours, const struct lent *theirs)
+{
+    check_canaries("model", name, ours);
+    check_canaries("library", name, theirs);
+}
+
 void compare_lent(const char *name, size_t width, const struct lent *ours, const struct lent *theirs)
 {
     compare_contents(name, width, ours, theirs);
-    check_canaries("model", name, ours);
-    check_canaries("library", name, theirs);
+    compare_canaries(name, ours, theirs);
 }
 
 uint64_t *words_of(const struct lent *lent)

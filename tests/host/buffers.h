@@ -31,7 +31,14 @@ void put_lent(struct lent *lent, size_t bytes, enum where where);
 /* The same, without moving it to the other end, and with these contents. */
 void fill_lent(struct lent *lent, const void *contents, size_t bytes);
 
-/* Fails if the two differ, or if one side wrote outside its own. Elements are width bytes wide. */
+/* Fails if the two differ. Elements are width bytes wide. */
+void compare_contents(const char *name, size_t width, const struct lent *ours,
+                      const struct lent *theirs);
+
+/* Fails if one side wrote outside its own. */
+void compare_canaries(const char *name, const struct lent *ours, const struct lent *theirs);
+
+/* Both. */
 void compare_lent(const char *name, size_t width, const struct lent *ours, const struct lent *theirs);
 
 uint64_t *words_of(const struct lent *lent);

@@ -101,7 +101,7 @@ mutant 'count rises at a refusal' \
 mutant 'record looked at before memory' \
     's/if (\(memory_len != .*PLACES\))/if (load(\&chip, record, record_len) \&\& (\1))/'
 mutant 'count looked at before event' \
-    's/if (!listed(event))/if (chip->count != UINT64_MAX \&\& !listed(event))/'
+    's/if (!model_listed(event))/if (chip->count != UINT64_MAX \&\& !model_listed(event))/'
 mutant 'writers length not looked at' 's/ || writers_len != PLACES//'
 mutant 'longer record taken' 's/if (record_len != WORDS)$/if (record_len < WORDS)/'
 mutant 'record word cut to 32 bits' 's/record\[w\] > limit/(uint32_t)record[w] > limit/'

@@ -7,12 +7,16 @@
 #   stand_in SOURCE...     builds these tests with the unchanged model as the library, and runs them
 #   mutant NAME EDIT       the model changed by this sed script must be found out; `model` names the
 #                          source that is changed
+#   header_mutant NAME SOURCE EDIT
+#                          the same for the header that hosts include, as this source of the tests
+#                          sees it
 #   all_found              prints how many there were
 
 cc=${CC:-gcc}
 out=${TESTS_OUT:-target/tests}/mutants/$tests
-flags='-std=c11 -Iinclude -Itests/model -Itests/host'
-parts='model glass pulses list plain compile'
+flags='-Itests/model -Itests/host -Itests/host/compile'
+header=include/pcf8820.h
+parts='model four_chips glass pulses list plain compile'
 mutants=0
 
 stop() {
@@ -22,7 +26,7 @@ stop() {
 
 compile() {
     # shellcheck disable=SC2086
-    "$cc" $flags "$@"
+    "$cc" -std=c11 -I"$(dirname "$header")" $flags "$@"
 }
 
 # as_library SOURCE OBJECT
@@ -58,13 +62,16 @@ stand_in() {
     "$out/host" quick || stop "the tests fail on the unchanged model"
 }
 
-mutant() {
-    sed "$2" "tests/model/$model.c" >"$out/mutant.c"
-    if cmp -s "tests/model/$model.c" "$out/mutant.c"; then
-        stop "$1: the edit finds nothing to change in the model"
+# change NAME EDIT FILE CHANGED
+change() {
+    sed "$2" "$3" >"$4"
+    if cmp -s "$3" "$4"; then
+        stop "$1: the edit finds nothing to change in $3"
     fi
-    as_library "$out/mutant.c" "$out/mutant.o" || stop "$1: the changed model does not compile"
-    link_tests "$model"
+}
+
+# must_find NAME: the tests as they are linked now.
+must_find() {
     status=0
     # The limit is of the processor's time: beside other work the clock says nothing.
     (ulimit -t 120 && exec "$out/host" quick) >"$out/log" 2>&1 || status=$?
@@ -74,6 +81,25 @@ mutant() {
     fi
     echo "found: $1 ($(sed -n '1s/^host tests: //p' "$out/log"))"
     mutants=$((mutants + 1))
+}
+
+mutant() {
+    change "$1" "$2" "tests/model/$model.c" "$out/mutant.c"
+    as_library "$out/mutant.c" "$out/mutant.o" || stop "$1: the changed model does not compile"
+    link_tests "$model"
+    must_find "$1"
+}
+
+# The object of that source is kept, and put back.
+header_mutant() {
+    object=$out/tests/$(basename "$2" .c).o
+    mkdir -p "$out/include"
+    change "$1" "$3" "$header" "$out/include/pcf8820.h"
+    mv "$object" "$out/kept.o"
+    (header=$out/include/pcf8820.h && compile -O2 -c "$2" -o "$object") || stop "$1: the changed header does not compile"
+    link_tests none
+    must_find "$1"
+    mv "$out/kept.o" "$object"
 }
 
 all_found() {

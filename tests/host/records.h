@@ -9,7 +9,7 @@
 enum {
     W_H = 0, W_DO = 1, W_PD = 2, W_V = 3, W_D = 4, W_E = 5, W_MX = 6, W_MY = 7, W_PS = 8,
     W_X = 9, W_Y = 10, W_DP = 13, W_SM = 18, W_GR = 20, W_GS0 = 21, W_DOF = 25, W_OC = 28,
-    W_PINS = 29, W_LAST_RS = 31, W_PHASE = 32, W_PHASE_RS = 33
+    W_PINS = 29, W_STATUS = 30, W_LAST_RS = 31, W_PHASE = 32, W_PHASE_RS = 33
 };
 
 enum { PHASES = 10, LAST_PAGE = 4, WRITE_MODES = 8 };

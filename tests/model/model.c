@@ -282,15 +282,15 @@ static void take_reading(struct chip *chip, uint8_t reading)
         chip->now[TR] = reading;
 }
 
-static bool listed(unsigned event)
+bool model_listed(uint16_t event)
 {
     return event <= RESET_PULSE || (event >= SENSOR && event < SENSOR + 256);
 }
 
 /* A refusal, with nothing changed, or an answer. */
-static uint64_t take_event(struct chip *chip, unsigned event)
+static uint64_t take_event(struct chip *chip, uint16_t event)
 {
-    if (!listed(event))
+    if (!model_listed(event))
         return BAD_EVENT;
     if (chip->count == UINT64_MAX)
         return COUNT_FULL;

@@ -25,6 +25,9 @@ uint64_t model_run(uint64_t *record, size_t record_len,
 /* Whether these words stand for a chip's record. */
 bool model_allowed(const uint64_t *record, size_t record_len);
 
+/* Whether this number is that of a bus event. */
+bool model_listed(uint16_t event);
+
 /* The number of the row that takes the byte in this page, by the data sheet's order from 0; 21, the
  * number of rows, where none does. */
 int model_row(int page, unsigned byte);

@@ -1,0 +1,108 @@
+/* Long random traffic of four chips, compared after every event; and that what one chip is sent is
+ * nothing to the other three. */
+#include "buses.h"
+#include "messages.h"
+#include "themes.h"
+
+static struct messages messages;
+
+/* ---- Traffic ----------------------------------------------------------------------------- */
+
+/* Now and then an event that is none comes in between, or a reading for no chip. */
+static void try_traffic(unsigned standing, size_t events)
+{
+    bus_lend_usual();
+    random_bus(standing);
+    make_messages(&messages, events);
+    for (size_t i = 0; i < messages.length; i++) {
+        if (below(200) == 0)
+            expect_bus(unlisted_event(), below(4), BAD_EVENT);
+        if (below(200) == 0)
+            expect_bus((uint16_t)(SENSOR + below(256)), 4 + below(300), BAD_PINS);
+        if (compare_bus(messages.sent[i].event, messages.sent[i].pins) < NOTHING)
+            fail("event %zu of the traffic is refused", i);
+    }
+}
+
+void test_traffic(void)
+{
+    theme("traffic");
+    for (int i = 0; i < (quick ? 1 : 20); i++)
+        for (unsigned standing = 0; standing < STANDINGS; standing++)
+            try_traffic(standing, (size_t)below(quick ? 600 : MOST_SENT));
+}
+
+/* ---- Apart ------------------------------------------------------------------------------- */
+
+/* What the next byte is, for the chip with some pins: read off the events alone. */
+enum turn { ADDRESS, DATA, OTHER };
+
+static enum turn turn_at_start(uint64_t phase)
+{
+    if (phase == 1)
+        return ADDRESS;
+    return phase >= 3 && phase <= 5 ? DATA : OTHER;
+}
+
+static enum turn turn_after(enum turn turn, uint16_t event, uint64_t pins)
+{
+    if (event == START)
+        return ADDRESS;
+    if (event == STOP || event == RESET_PULSE)
+        return OTHER;
+    if (turn == ADDRESS && event < 256)
+        return event == (0x78 | pins << 1) ? DATA : OTHER;
+    return turn;
+}
+
+/* Every byte behind the chip's write address, control bytes among them, becomes another. */
+static void change_data(uint64_t pins)
+{
+    enum turn turn = turn_at_start(bus_word(chip_of(pins), W_PHASE));
+    for (size_t i = 0; i < messages.length; i++) {
+        uint16_t event = messages.sent[i].event;
+        if (turn == DATA && event < 256)
+            messages.sent[i].event = (uint16_t)below(256);
+        turn = turn_after(turn, event, pins);
+    }
+}
+
+static void play(struct bus_state *end)
+{
+    for (size_t i = 0; i < messages.length; i++)
+        compare_bus(messages.sent[i].event, messages.sent[i].pins);
+    bus_save(end);
+}
+
+/* Gives whether the chip itself came out another. */
+static bool try_apart(unsigned standing, uint64_t pins, size_t events)
+{
+    static struct bus_state before, first, second;
+    bus_lend_usual();
+    random_bus(standing);
+    size_t chip = chip_of(pins);
+    bus_save(&before);
+    make_messages(&messages, events);
+    play(&first);
+    bus_restore(&before);
+    change_data(pins);
+    play(&second);
+    for (size_t c = 0; c < CHIPS; c++)
+        if (c != chip && !equal_chips(&first.chip[c], &second.chip[c]))
+            fail("other data for chip %zu changed chip %zu", chip, c);
+    if (first.count != second.count)
+        fail("other data for chip %zu changed the count", chip);
+    return !equal_chips(&first.chip[chip], &second.chip[chip]);
+}
+
+void test_apart(void)
+{
+    unsigned changed = 0;
+    theme("apart");
+    for (int i = 0; i < (quick ? 1 : 10); i++)
+        for (unsigned standing = 0; standing < STANDINGS; standing++)
+            for (uint64_t pins = 0; pins < 4; pins++)
+                changed += try_apart(standing, pins, 20 + (size_t)below(quick ? 100 : 600));
+    if (changed < STANDINGS)
+        fail("other data hardly ever changed the chip that got it");
+}
