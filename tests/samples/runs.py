@@ -141,10 +141,11 @@ def examples(calls, archive):
         script(rt, "[ \"$*\" = 'staticlib host' ] || exit 1", "echo 'rt: host proved (9 s)'", waits_for(sign),
                f"mkdir -p target/staticlib && cp '{archive}' target/staticlib/libhost.a")
         shown_at_once(calls, run, "examples/run: host proved (9 s)", sign, PATH=path)
-        calls.expect(run, 0, out="example: as expected\n", PATH=path)
-        with open(os.path.join(project, "examples/host.stdout"), "a") as file:
-            file.write("one line more\n")
-        calls.expect(run, 1, out="< one line more", PATH=path)
+        calls.expect(run, 0, out="examples: as expected\n", PATH=path)
+        for name in "four_glasses", "host":
+            with open(os.path.join(project, f"examples/{name}.stdout"), "a") as file:
+                file.write(f"one line more of {name}\n")
+            calls.expect(run, 1, out=f"< one line more of {name}", PATH=path)
 
 
 def all_of(calls, programs, archive):
