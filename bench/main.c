@@ -56,6 +56,18 @@ static uint64_t run_messages(struct side *side)
     return from;
 }
 
+#define CHIP(n) \
+    side->on_bus[n].record, WORDS, side->on_bus[n].memory, PLACES, side->on_bus[n].writers, PLACES
+
+/* A sensor reading is for each chip in turn. */
+static uint64_t bus_step_all(struct side *side)
+{
+    for (size_t i = 0; i < stream.length; i++)
+        side->sum += side->calls->bus_step(CHIP(0), CHIP(1), CHIP(2), CHIP(3), &side->count,
+                                           stream.events[i], i % CHIPS);
+    return stream.length;
+}
+
 static uint64_t look_at_all(struct side *side)
 {
     for (uint64_t row = 0; row < ROWS; row++)
@@ -191,6 +203,12 @@ static void compare_chip(void)
     }
 }
 
+static void compare_bus(void)
+{
+    bus_stream(&stream);
+    compare("bus step, mixed", "events", bus_step_all, 2, clear_both);
+}
+
 static void compare_compilers(void)
 {
     fills_list(0);
@@ -210,6 +228,7 @@ int main(void)
     printf("library speed / model speed, %d rounds; buffers cleared before each\n", ROUNDS);
     printf("%-26s %6s %6s %6s   %7s %7s\n", "", "least", "median", "most", "library", "model");
     compare_chip();
+    compare_bus();
     compare("glass, every pixel", "pixels", look_at_all, 40, light_up);
     compare("pulses, every row", "pixels", pulse_rows, 40, light_up);
     compare_compilers();

@@ -1,6 +1,7 @@
 #include "sides.h"
 
 #include "compile.h"
+#include "four_chips.h"
 #include "glass.h"
 #include "model.h"
 #include "pcf8820.h"
@@ -14,6 +15,7 @@
 static const struct calls library_calls = {
     .step = pcf8820_step,
     .run = pcf8820_run,
+    .bus_step = pcf8820_bus_step,
     .glass = pcf8820_glass,
     .pulse_row = pcf8820_pulse_row,
     .compile = pcf8820_compile,
@@ -22,6 +24,7 @@ static const struct calls library_calls = {
 static const struct calls model_calls = {
     .step = model_step,
     .run = model_run,
+    .bus_step = model_bus_step,
     .glass = model_glass,
     .pulse_row = model_pulse_row,
     .compile = model_compile,
@@ -35,6 +38,9 @@ void clear(struct side *side)
     model_reset(side->record, WORDS, 0);
     memset(side->memory, 0, sizeof side->memory);
     memset(side->writers, 0, sizeof side->writers);
+    memset(side->on_bus, 0, sizeof side->on_bus);
+    for (uint64_t pins = 0; pins < CHIPS; pins++)
+        model_reset(side->on_bus[pins].record, WORDS, pins);
     side->count = 0;
     memset(side->row, 0, sizeof side->row);
     memset(side->out, 0, sizeof side->out);
@@ -49,16 +55,13 @@ void light_up(void)
     } lit[] = { { W_PD, 0 }, { W_DOF, 0 }, { W_D, 1 }, { W_GS0, 3 }, { W_GS0 + 1, 20 },
                 { W_GS0 + 2, 41 }, { W_GS0 + 3, 60 } };
     clear(&library);
+    clear(&model);
     for (size_t i = 0; i < sizeof lit / sizeof lit[0]; i++)
         library.record[lit[i].word] = lit[i].value;
     for (size_t i = 0; i < PLACES; i++)
         library.memory[i] = (uint8_t)below(256);
     memcpy(model.record, library.record, sizeof model.record);
     memcpy(model.memory, library.memory, sizeof model.memory);
-    memset(model.writers, 0, sizeof model.writers);
-    model.count = 0;
-    memset(model.row, 0, sizeof model.row);
-    model.sum = 0;
 }
 
 void must_agree(const char *name)
@@ -67,6 +70,7 @@ void must_agree(const char *name)
         && memcmp(library.record, model.record, sizeof model.record) == 0
         && memcmp(library.memory, model.memory, sizeof model.memory) == 0
         && memcmp(library.writers, model.writers, sizeof model.writers) == 0
+        && memcmp(library.on_bus, model.on_bus, sizeof model.on_bus) == 0
         && library.count == model.count
         && memcmp(library.row, model.row, sizeof model.row) == 0
         && memcmp(library.out, model.out, sizeof model.out) == 0)

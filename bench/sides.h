@@ -5,13 +5,17 @@
 #include <stddef.h>
 #include <stdint.h>
 
-enum { WORDS = 34, PLACES = 1717, ROW_BYTES = 404, MOST_OUT = 1 << 18 };
+enum { WORDS = 34, PLACES = 1717, CHIPS = 4, ROW_BYTES = 404, MOST_OUT = 1 << 18 };
+
+/* The arguments of one chip. */
+#define OF_A_CHIP uint64_t *, size_t, uint8_t *, size_t, uint64_t *, size_t
 
 struct calls {
-    uint64_t (*step)(uint64_t *, size_t, uint8_t *, size_t, uint64_t *, size_t,
-                     uint64_t *, uint16_t);
-    uint64_t (*run)(uint64_t *, size_t, uint8_t *, size_t, uint64_t *, size_t, uint64_t *,
-                    const uint16_t *, size_t, uint64_t *, uint64_t *, uint64_t *);
+    uint64_t (*step)(OF_A_CHIP, uint64_t *, uint16_t);
+    uint64_t (*run)(OF_A_CHIP, uint64_t *, const uint16_t *, size_t,
+                    uint64_t *, uint64_t *, uint64_t *);
+    uint64_t (*bus_step)(OF_A_CHIP, OF_A_CHIP, OF_A_CHIP, OF_A_CHIP,
+                         uint64_t *, uint16_t, uint64_t);
     uint64_t (*glass)(const uint64_t *, size_t, const uint8_t *, size_t, uint64_t, uint64_t);
     uint64_t (*pulse_row)(const uint64_t *, size_t, const uint8_t *, size_t, uint64_t,
                           uint8_t *, size_t);
@@ -19,12 +23,19 @@ struct calls {
                         uint64_t *, uint64_t *, uint64_t *);
 };
 
-/* What a side works on, and a sum over all that it gave back. */
+struct chip {
+    uint64_t record[WORDS];
+    uint8_t memory[PLACES];
+    uint64_t writers[PLACES];
+};
+
+/* What a side works on, one chip or four on a bus, and a sum over all that it gave back. */
 struct side {
     const struct calls *calls;
     uint64_t record[WORDS];
     uint8_t memory[PLACES];
     uint64_t writers[PLACES];
+    struct chip on_bus[CHIPS];
     uint64_t count;
     uint8_t row[ROW_BYTES];
     uint16_t out[MOST_OUT];
@@ -33,7 +44,7 @@ struct side {
 
 extern struct side library, model;
 
-/* The reset record; both memories, the count and the outputs 0. */
+/* The reset record, on the bus with the pins 0 to 3; memories, the count and the outputs 0. */
 void clear(struct side *side);
 
 /* A record that shows levels, and a random memory, the same on both sides. */

@@ -166,3 +166,12 @@ void mixed_stream(struct stream *stream)
 {
     fill(stream, add_any);
 }
+
+void bus_stream(struct stream *stream)
+{
+    unsigned pins = 0;
+    mixed_stream(stream);
+    for (size_t i = 1; i < stream->length; i++)
+        if (stream->events[i - 1] == START)
+            stream->events[i] = (uint16_t)(WRITE | pins++ % 4 << 1 | (stream->events[i] & 1));
+}

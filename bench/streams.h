@@ -21,5 +21,6 @@ void swapped_stream(struct stream *stream);  /* the same with DO = 1 */
 void cells_stream(struct stream *stream);    /* single cells, each with its address */
 void commands_stream(struct stream *stream); /* registers, one a message */
 void mixed_stream(struct stream *stream);    /* all of these, reads, readings, other chips' messages */
+void bus_stream(struct stream *stream);      /* the same for four chips, message by message in turn */
 
 #endif
