@@ -1,5 +1,5 @@
-"""Builds the archive for C, runs the parts of the tests against the independent model, and the example, as many at a
-time as there are cores.
+"""Builds the archive for C, runs the parts of the tests against the independent model, and the examples, as many
+at a time as there are cores.
 
 What they print stays in order. A part that fails ends the others, and its output alone is printed.
 """

@@ -200,6 +200,14 @@ uint64_t compare_reset(uint64_t pins)
     return compare_call(ours, theirs);
 }
 
+/* Every event that was done has added 1, and a refused one nothing. */
+static void expect_count(uint64_t done)
+{
+    if (*words_of(&library.count) != call.count + done)
+        fail("the count was %llu, and after %llu events it is %llu", (unsigned long long)call.count,
+             (unsigned long long)done, (unsigned long long)*words_of(&library.count));
+}
+
 uint64_t compare_step(uint16_t event)
 {
     note_call("step", print_step);
@@ -212,7 +220,9 @@ uint64_t compare_step(uint16_t event)
                                model.memory.at, call.memory_len,
                                words_of(&model.writers), call.writers_len,
                                words_of(&model.count), event);
-    return compare_call(ours, theirs);
+    compare_call(ours, theirs);
+    expect_count(theirs >= NOTHING);
+    return theirs;
 }
 
 static void put_noise(struct lent *number)
@@ -261,6 +271,7 @@ uint64_t compare_run(const uint16_t *events, size_t events_len, struct ran *ran)
                               words_of(&model.out_of_range));
     compare_call(ours, theirs);
     compare_ran(ran);
+    expect_count(ran->done);
     compare_lent("events", sizeof(uint16_t), &model.events, &library.events);
     if (memcmp(events, model.events.at, events_len * sizeof *events) != 0)
         fail("the events were changed");

@@ -18,8 +18,8 @@ enum {
     MOST_EVENTS = 80000
 };
 
-/* What a step answers to a byte from the master. */
-enum { ACK = 257, NACK, COMMAND_TAKEN, COMMAND_UNKNOWN, COMMAND_OUT_OF_RANGE };
+/* What a step answers: nothing, or, to a byte from the master, one of the others. */
+enum { NOTHING = 256, ACK, NACK, COMMAND_TAKEN, COMMAND_UNKNOWN, COMMAND_OUT_OF_RANGE };
 
 /* The numbers that a run sets. */
 struct ran {

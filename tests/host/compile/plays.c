@@ -54,7 +54,7 @@ static uint64_t good_answer(uint16_t event)
 {
     uint64_t phase = word_now(W_PHASE);
     if (event >= 256)
-        return 256;
+        return NOTHING;
     return (phase == 4 || phase == 5) && word_now(W_PHASE_RS) == 0 ? COMMAND_TAKEN : ACK;
 }
 
