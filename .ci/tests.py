@@ -14,7 +14,8 @@ import time
 # What takes long comes first, so that the others run beside it.
 ARCHIVE = "rt staticlib host"
 PARTS = ["tests/run programs", "tests/run model", "tests/run worked", "tests/run gate"]
-PARTS_OF_ARCHIVE = ["tests/run host", "tests/run bus", "tests/run compile", "tests/run samples", "tests/run glass", "examples/run"]
+PARTS_OF_ARCHIVE = ["tests/run host", "tests/run bus", "tests/run compile", "tests/run samples", "tests/run glass",
+                    "examples/run"]
 running = set()
 
 

@@ -1,6 +1,6 @@
-/* Every event number from every standing of the bus: what a byte, a read and the rest are answered, by
- * number and not by the model alone. And event counts where a narrower number, or the last one, would
- * show. */
+/* Every event from every standing of the bus, and numbers that are none: what a byte, a read and the
+ * rest are answered, by number and not by the model alone. And event counts where a narrower number, or
+ * the last one, would show. */
 #include "buses.h"
 #include "themes.h"
 

@@ -16,6 +16,7 @@ int main(int argc, char **argv)
     test_sensors();
     test_counts();
     test_traffic();
+    test_alone();
     test_apart();
     test_plays();
     bus_canaries();

@@ -9,6 +9,7 @@ void test_events(void);
 void test_sensors(void);
 void test_counts(void);
 void test_traffic(void);
+void test_alone(void);
 void test_apart(void);
 void test_plays(void);
 

@@ -1,12 +1,20 @@
-/* Long random traffic of four chips, compared after every event; and that what one chip is sent is
- * nothing to the other three. */
+/* Long random traffic of four chips, compared after every event; that each chip does what it does
+ * alone; and that what one chip is sent is nothing to the other three. */
 #include "buses.h"
 #include "messages.h"
+#include "pcf8820.h"
 #include "themes.h"
 
 static struct messages messages;
 
 /* ---- Traffic ----------------------------------------------------------------------------- */
+
+static void play(struct bus_state *end)
+{
+    for (size_t i = 0; i < messages.length; i++)
+        compare_bus(messages.sent[i].event, messages.sent[i].pins);
+    bus_save(end);
+}
 
 /* Now and then an event that is none comes in between, or a reading for no chip. */
 static void try_traffic(unsigned standing, size_t events)
@@ -30,6 +38,44 @@ void test_traffic(void)
     for (int i = 0; i < (quick ? 1 : 20); i++)
         for (unsigned standing = 0; standing < STANDINGS; standing++)
             try_traffic(standing, (size_t)below(quick ? 600 : MOST_SENT));
+}
+
+/* ---- Alone ------------------------------------------------------------------------------- */
+
+/* The chip by itself, event by event. A reading for another chip does not come to it, but is counted. */
+static void play_alone(struct chip_state *chip, uint64_t count)
+{
+    for (size_t i = 0; i < messages.length; i++) {
+        const struct sent *sent = &messages.sent[i];
+        if (sent->event >= SENSOR && sent->pins != chip->record[W_PINS])
+            count++;
+        else if (pcf8820_step(chip->record, RECORD_LEN, chip->memory, PLACES, chip->writers, PLACES,
+                              &count, sent->event) < NOTHING)
+            fail("a chip alone refuses event %zu", i);
+    }
+}
+
+static void try_alone(unsigned standing, size_t events)
+{
+    static struct bus_state alone, together;
+    bus_lend_usual();
+    random_bus(standing);
+    bus_save(&alone);
+    make_messages(&messages, events);
+    play(&together);
+    for (size_t c = 0; c < CHIPS; c++) {
+        play_alone(&alone.chip[c], alone.count);
+        if (!equal_chips(&alone.chip[c], &together.chip[c]))
+            fail("chip %zu is another on the bus than alone", c);
+    }
+}
+
+void test_alone(void)
+{
+    theme("alone");
+    for (int i = 0; i < (quick ? 1 : 10); i++)
+        for (unsigned standing = 0; standing < STANDINGS; standing++)
+            try_alone(standing, (size_t)below(quick ? 100 : 600));
 }
 
 /* ---- Apart ------------------------------------------------------------------------------- */
@@ -65,13 +111,6 @@ static void change_data(uint64_t pins)
             messages.sent[i].event = (uint16_t)below(256);
         turn = turn_after(turn, event, pins);
     }
-}
-
-static void play(struct bus_state *end)
-{
-    for (size_t i = 0; i < messages.length; i++)
-        compare_bus(messages.sent[i].event, messages.sent[i].pins);
-    bus_save(end);
 }
 
 /* Gives whether the chip itself came out another. */
