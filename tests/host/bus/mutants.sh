@@ -6,9 +6,9 @@ tests=bus
 stand_in tests/host/report.c tests/host/buffers.c tests/host/records.c tests/host/compile/lists.c tests/host/bus/*.c
 
 model=four_chips
-for call in byte read reading all; do
-    eval "in_$call='/^static uint64_t give_$call(/,/^}/'"
-done
+in_byte='/^static uint64_t give_byte(/,/^}/'
+in_read='/^static uint64_t give_read(/,/^}/'
+in_all='/^static uint64_t give_all(/,/^}/'
 
 # Answers.
 mutant 'acknowledged by chip 0 alone' 's/acknowledged = true;/acknowledged = c == 0;/'
@@ -110,24 +110,27 @@ mutant 'a reading of 255 no reading' 's/event < SENSOR + 256/event < SENSOR + 25
 
 # The order: 1, 2, 12, 3, 13, 4. Where just two faults are there, the later one is given. 3 and 13 are
 # never there together.
-records=
-for chip in 0 1 2 3; do
-    records="$records chips[$chip].record_len >= WORDS \&\&"
-done
-fault_1='!good_memories(chips)'
-fault_2='!good_records(chips)'
-fault_12="($records (!pins_differ(chips) || !phases_fit(chips)))"
-fault_3='!model_listed(event)'
-fault_13='(is_reading(event) \&\& pins > LAST_PINS)'
-fault_4='(count == UINT64_MAX)'
+long_records='chips[0].record_len >= WORDS \&\& chips[1].record_len >= WORDS \&\& chips[2].record_len >= WORDS \&\& chips[3].record_len >= WORDS'
+
+# fault NUMBER: when it is there.
+fault() {
+    case $1 in
+    1) echo '!good_memories(chips)' ;;
+    2) echo '!good_records(chips)' ;;
+    12) echo "($long_records \&\& (!pins_differ(chips) || !phases_fit(chips)))" ;;
+    3) echo '!model_listed(event)' ;;
+    13) echo '(is_reading(event) \&\& pins > LAST_PINS)' ;;
+    4) echo '(count == UINT64_MAX)' ;;
+    esac
+}
 
 # swapped EARLY LATE
 swapped() {
     both=true
     for number in 1 2 12 3 13 4; do
         case $number in
-        "$1" | "$2") eval "both=\"\$both \\&\\& \$fault_$number\"" ;;
-        *) eval "both=\"\$both \\&\\& !\$fault_$number\"" ;;
+        "$1" | "$2") both="$both \&\& $(fault $number)" ;;
+        *) both="$both \&\& !$(fault $number)" ;;
         esac
     done
     mutant "$2 before $1" "s/^    if (!good_memories(chips))/    if ($both) return $2; &/"
