@@ -77,14 +77,7 @@ pub fn answer(answer: Answer, out: &mut [u8], at: usize) -> usize
 }
 
 // The whole line. Chip and count are those before the event, and its number follows the count; it may be past the largest u64.
-pub fn line(
-    event: u16,
-    chip: Chip,
-    count: u64,
-    given: Answer,
-    out: &mut [u8],
-    at: usize,
-) -> usize
+pub fn line(event: u16, chip: Chip, count: u64, given: Answer, out: &mut [u8], at: usize) -> usize
     ensures { λ r. ⌜ Wrote (now (out .entry)) at (eventLine event chip count given) (now (out .exit)) r ⌝ }
 {
     let number = print::decimal_plus(count, 1, out, at);
