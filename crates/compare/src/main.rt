@@ -69,7 +69,7 @@ fn compare(
         return;
     }
     // Of a first capture that is bad, the line is told whatever the second is, and that one is not read.
-    let End::Whole(_) = end else {
+    let End::Whole(_, _) = end else {
         tell(end, &memory, &writers, end, &memory, &writers);
         return;
     };

@@ -23,53 +23,54 @@ fn is_good(chip: Chip, list: &[u8], name: &[u8], named: usize) -> bool {
     false
 }
 
-// The chip after a line's events, and whether they could be printed.
+// The chip and the count after a line's events, and whether they could be printed.
 struct Drawn {
     chip: Chip,
+    count: u64,
     printed: bool,
 }
 
 // One line's events, printed and played: the next line is compiled for the registers that they leave.
 fn draw_line(
-    chip: Chip,
+    now: Drawn,
     line: &[u8],
     out: &mut [u16],
     memory: &mut [u8],
     writers: &mut [u64],
 ) -> Drawn {
+    let chip = now.chip;
     let numbers = compiler::compile(chip, line, out).numbers();
     let n = numbers.length as usize;
     if numbers.number != 0 {
-        return Drawn {
-            chip,
-            printed: true,
-        };
+        return now;
     }
     if out.len() < n {
-        return Drawn {
-            chip,
-            printed: true,
-        };
+        return now;
     }
     let printed = output::events(&out[..n]);
-    let after = engine::run::run(chip, memory, writers, &out[..n]).chip;
+    let ran = engine::run::run(chip, now.count, memory, writers, &out[..n]);
+    let after = ran.chip;
     Drawn {
         chip: after,
+        count: ran.count,
         printed,
     }
 }
 
 // Line by line, so that the stream of a long list, millions of events, is never held as a whole. It ends at the first that can't be printed.
 fn draw(chip: Chip, list: &[u8], out: &mut [u16], memory: &mut [u8], writers: &mut [u64]) {
-    let mut now = chip;
+    let mut now = Drawn {
+        chip,
+        count: 0,
+        printed: true,
+    };
     let mut at = 0;
     while at < list.len() {
         let next = lists::line_at(list, at).next;
-        let drawn = draw_line(now, &list[at..next], out, memory, writers);
-        if !drawn.printed {
+        now = draw_line(now, &list[at..next], out, memory, writers);
+        if !now.printed {
             return;
         }
-        now = drawn.chip;
         at = next;
     }
 }

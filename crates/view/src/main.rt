@@ -26,7 +26,7 @@ fn refused(end: End) {
 }
 
 fn tell(end: End, memory: &[u8]) {
-    let End::Whole(chip) = end else {
+    let End::Whole(chip, _) = end else {
         refused(end);
         return;
     };

@@ -46,7 +46,7 @@ returns c = search needs
 
 loop-less : tie.Need-loop-less Inv-loop μ-loop
 loop-less c =
-    let call = c .before .before .before .before .before .before .before .before .before in
+    let call = c .before .before .before .before .before .before .before .before in
     let line = call .before .before .before .before .before in
     let test = line .before .loop-test .taken in
     omega (arith, test, reading-next _ _ 1 test _ (line .line-at .ensures))
