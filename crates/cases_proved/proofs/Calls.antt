@@ -1,7 +1,7 @@
 -- Wrong calls are shut out: one computed test over the table.
 use lib.Dec.{T}
 use Rattle.cases_proved.specs.Cited.{allowed, refusalOf, applied, accepted, stepOf, runOf, runFrom, tally, entryRefusal, eventRefusal, isAddressed}
-use Rattle.cases_proved.specs.Cited.{phaseAfterAddress, controlled, acknowledge, counted, commandOf, answerTo, rowAt, placeRefusal, glassRefusal, cellOf, glassOf, rowBytes, rowRefusal, rowOf}
+use Rattle.cases_proved.specs.Cited.{phaseAfterAddress, controlled, acknowledge, commandOf, answerTo, rowAt, placeOf, columnOf, placeRefusal, glassRefusal, cellOf, glassOf, rowBytes, rowRefusal, rowOf}
 use Rattle.cases_proved.specs.Cited.{compileOf, readingOf, readingFrom, lineOf, numberOf, stream, lineEvents}
 use Rattle.cases_proved.specs.Cited.{standsFor, chipOf, wordsOf, resetCall, stepCall, runCall, glassCall, placeCall, pulsesCall, pulseRowCall, compileCall}
 use Rattle.cases_proved.specs.Calls.{calls, callRows}
@@ -13,7 +13,7 @@ use Rattle.cases_proved.proofs.Table.{each-row}
 all-pass : T (eachPasses (passes calls) callRows)
 unfolding calls callRows standsFor chipOf wordsOf
     resetCall stepCall runCall glassCall placeCall pulsesCall pulseRowCall compileCall
-    allowed refusalOf applied accepted stepOf runOf runFrom tally entryRefusal eventRefusal isAddressed phaseAfterAddress controlled acknowledge counted commandOf answerTo rowAt
+    allowed refusalOf applied accepted stepOf runOf runFrom tally entryRefusal eventRefusal isAddressed phaseAfterAddress controlled acknowledge commandOf answerTo rowAt placeOf columnOf
     placeRefusal glassRefusal cellOf glassOf rowBytes rowRefusal rowOf
     compileOf readingOf readingFrom lineOf numberOf stream lineEvents
 all-pass = tt

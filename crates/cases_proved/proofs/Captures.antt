@@ -1,7 +1,7 @@
 -- Wrong replays are shut out: one computed test over the table.
 use lib.Dec.{T}
 use Rattle.cases_proved.specs.Cited.{allowed, rowAt, commandOf, storedOf, placeOf, nextAddress, refusalOf, applied, accepted, numberOf, pinsOf, replayOf}
-use Rattle.cases_proved.specs.Cited.{entryRefusal, eventRefusal, isAddressed, phaseAfterAddress, acknowledge, controlled, counted, columnOf}
+use Rattle.cases_proved.specs.Cited.{entryRefusal, eventRefusal, isAddressed, phaseAfterAddress, acknowledge, controlled, columnOf}
 use Rattle.cases_proved.specs.Cited.{runFrom, runOf}
 use Rattle.cases_proved.specs.Captures.{captureRows}
 use Rattle.cases_proved.specs.Observed.{Distinguishes}
@@ -11,7 +11,7 @@ use Rattle.cases_proved.proofs.Table.{each-row}
 
 all-pass : T (eachPasses (passes replayOf) captureRows)
 unfolding captureRows refusalOf accepted applied allowed commandOf rowAt storedOf placeOf nextAddress numberOf pinsOf replayOf
-    entryRefusal eventRefusal isAddressed phaseAfterAddress acknowledge controlled counted columnOf runFrom runOf
+    entryRefusal eventRefusal isAddressed phaseAfterAddress acknowledge controlled columnOf runFrom runOf
 all-pass = tt
 
 pub wrong-replays : EachRow (Distinguishes replayOf) captureRows

@@ -6,7 +6,7 @@ use lib.Dec.{T}
 use Rattle.cases_proved.specs.Cited.{Fill, bytes, Demand3, allowed, rowAt, commandOf, answerTo, storedOf, placeOf, nextAddress, refusalOf, applied}
 use Rattle.cases_proved.specs.Cited.{accepted, stepOf}
 use Rattle.cases_proved.specs.Cited.{entryRefusal, eventRefusal, isAddressed, phaseAfterAddress, phaseAfterLastRead, acknowledge}
-use Rattle.cases_proved.specs.Cited.{isAcknowledged, controlled, readByte, pulsed, sensed, counted, columnOf}
+use Rattle.cases_proved.specs.Cited.{isAcknowledged, controlled, readByte, pulsed, sensed, columnOf}
 use Rattle.cases_proved.specs.Cited.{placeRefusal, glassRefusal, glassOf, numberOf, lineOf, readingFrom, readingOf, setTo, lineEvents, stream, compileOf}
 use Rattle.cases_proved.specs.Start.{upon}
 use Rattle.cases_proved.specs.Table.{eachPasses}
@@ -16,7 +16,7 @@ use Rattle.cases_proved.specs.Marked.{holds, marked, putEvents}
 pub all-marked : T (eachPasses holds marked)
 unfolding holds marked
     stepOf refusalOf accepted applied allowed commandOf answerTo rowAt storedOf placeOf nextAddress
-    entryRefusal eventRefusal isAddressed phaseAfterAddress phaseAfterLastRead acknowledge isAcknowledged controlled readByte pulsed sensed counted columnOf
+    entryRefusal eventRefusal isAddressed phaseAfterAddress phaseAfterLastRead acknowledge isAcknowledged controlled readByte pulsed sensed columnOf
     placeRefusal glassRefusal glassOf
     compileOf readingOf readingFrom lineOf numberOf stream lineEvents setTo
 all-marked = tt

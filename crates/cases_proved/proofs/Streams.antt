@@ -10,7 +10,7 @@ use Rattle.registers.proofs.Below.{and-left, and-right}
 use Rattle.cases_proved.specs.Cited.{Line, Reading, faulty, lines, linesOf, bytes, sameBytes, blank, Fit, Demand3, Draws}
 use Rattle.cases_proved.specs.Cited.{allowed, rowAt, commandOf, answerTo, storedOf, placeOf, nextAddress, refusalOf, applied, accepted, stepOf}
 use Rattle.cases_proved.specs.Cited.{entryRefusal, eventRefusal, isAddressed, phaseAfterAddress, phaseAfterLastRead, acknowledge}
-use Rattle.cases_proved.specs.Cited.{isAcknowledged, controlled, readByte, pulsed, sensed, counted, columnOf}
+use Rattle.cases_proved.specs.Cited.{isAcknowledged, controlled, readByte, pulsed, sensed, columnOf}
 use Rattle.cases_proved.specs.Cited.{numberOf, lineOf, readingFrom, readingOf, filled, setTo, lineEvents, stream}
 use Rattle.cases_proved.specs.Start.{zeros}
 use Rattle.cases_proved.specs.Table.{EachRow, eachPasses}
@@ -64,7 +64,7 @@ module _ (o : Output) (t : T (isAccepted o)) where
   draws-met : Draws (start o .chip) (bytes (o .text)) (length (o .events)) (o .events) → Demand3 (linesIn o) (o .events) (start o)
   draws-met d =
       subst (λ (ls : List Line). Demand3 ls (o .events) (start o)) (sym (ap linesOf (d .reads)))
-      (subst (λ (es : List ℕ). Demand3 (d .list) es (start o)) (take-all (o .events)) (d .plays zeros zeros fit (omega (arith, room))))
+      (subst (λ (es : List ℕ). Demand3 (d .list) es (start o)) (take-all (o .events)) (d .plays zeros zeros 0 fit (omega (arith, room))))
     where
       take-all : (es : List ℕ) → take (length es) es ≡ es
       take-all [] = refl
@@ -93,14 +93,14 @@ other-row o t =
 all-wrong : T (eachPasses isWrong wrongOutputs)
 unfolding wrongOutputs
     stepOf refusalOf accepted applied allowed commandOf answerTo rowAt storedOf placeOf nextAddress
-    entryRefusal eventRefusal isAddressed phaseAfterAddress phaseAfterLastRead acknowledge isAcknowledged controlled readByte pulsed sensed counted columnOf
+    entryRefusal eventRefusal isAddressed phaseAfterAddress phaseAfterLastRead acknowledge isAcknowledged controlled readByte pulsed sensed columnOf
     readingOf readingFrom lineOf numberOf setTo filled
 all-wrong = tt
 
 all-other : T (eachPasses isOther otherOutputs)
 unfolding otherOutputs
     stepOf refusalOf accepted applied allowed commandOf answerTo rowAt storedOf placeOf nextAddress
-    entryRefusal eventRefusal isAddressed phaseAfterAddress phaseAfterLastRead acknowledge isAcknowledged controlled readByte pulsed sensed counted columnOf
+    entryRefusal eventRefusal isAddressed phaseAfterAddress phaseAfterLastRead acknowledge isAcknowledged controlled readByte pulsed sensed columnOf
     readingOf readingFrom lineOf numberOf setTo filled stream lineEvents
 all-other = tt
 

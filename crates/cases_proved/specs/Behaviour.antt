@@ -21,7 +21,7 @@ abbrev pub register : ℕ → State → ℕ
 register f s = getD (values (s .chip .registers)) f 0
 
 abbrev pub count : State → ℕ
-count s = s .chip .count
+count s = s .count
 
 -- TR
 abbrev pub status : State → ℕ

@@ -1,9 +1,9 @@
 -- Wrong calls: what the calls of a host in C give for chosen words and buffers, and what a wrong one would give.
-use mathlib.Core.Bool.{false}
+use mathlib.Core.Bool.{true, false}
 use mathlib.Core.List.{List, [], _∷_}
-use Prim.Native.Nat.{ℕ, _+_, _^_}
+use Prim.Native.Nat.{ℕ, _+_, _-_, _^_}
 use Prim.Native.String.{String}
-use Rattle.cases_proved.specs.Cited.{PD, X, PINS, COUNT, replicate, getD, bytes, EndlessBytes, inPhase, wordsOf, Reset, resetCall, Stepped, stepCall, Ran, runCall}
+use Rattle.cases_proved.specs.Cited.{PD, X, PINS, PHASE, replicate, getD, bytes, EndlessBytes, inPhase, wordsOf, Reset, resetCall, Stepped, stepCall, Ran, runCall}
 use Rattle.cases_proved.specs.Cited.{glassCall, placeCall, PulseRow, pulsesCall, pulseRowCall, Compiled, compileCall}
 use Rattle.cases_proved.specs.Behaviour.{START, nothing, acknowledged, commandTaken, commandUnknown, commandOutOfRange, commands}
 use Rattle.cases_proved.specs.Observed.{Observation, _gives_not_}
@@ -13,11 +13,11 @@ use Rattle.cases_proved.specs.Pulses.{told}
 
 -- ---- the calls, and what can be seen of them
 
--- words, display memory and writers come in this order, and the buffer that is written last
+-- words, display memory, writers and count come in this order, and the buffer that is written last
 pub record Calls : Type 0 where
   pub reset : ℕ → List ℕ → Reset
-  pub step : ℕ → List ℕ → List ℕ → List ℕ → Stepped
-  pub run : List ℕ → List ℕ → List ℕ → List ℕ → Ran
+  pub step : ℕ → List ℕ → List ℕ → List ℕ → ℕ → Stepped
+  pub run : List ℕ → List ℕ → List ℕ → List ℕ → ℕ → Ran
   pub glass : ℕ → ℕ → List ℕ → List ℕ → ℕ
   pub place : ℕ → ℕ → List ℕ → ℕ
   pub pulses : ℕ → ℕ → List ℕ → List ℕ → ℕ
@@ -42,11 +42,15 @@ abbrev pub words : List Setting → List ℕ
 words before = wordsOf (viewed before)
 
 abbrev pub noWords : List ℕ
-noWords = replicate 34 0
+noWords = replicate 33 0
 
 -- the words of the same chip while it awaits commands
 abbrev pub awaiting : List Setting → List ℕ
 awaiting before = wordsOf (inPhase (viewed before) (EndlessBytes false))
+
+-- and while it awaits display bytes
+abbrev pub awaitingData : List Setting → List ℕ
+awaitingData before = wordsOf (inPhase (viewed before) (EndlessBytes true))
 
 -- a memory, or writers, one short
 abbrev pub short : List ℕ
@@ -59,23 +63,39 @@ resetNumber pins n c = c .reset pins (replicate n 77) .number
 abbrev pub resetWord : ℕ → ℕ → ℕ → Calls → ℕ
 resetWord pins n k c = getD (c .reset pins (replicate n 77) .words) k 0
 
+-- a step from a count of 0
 abbrev pub stepNumber : ℕ → List ℕ → List ℕ → List ℕ → Calls → ℕ
-stepNumber e ws m w c = c .step e ws m w .number
+stepNumber e ws m w c = c .step e ws m w 0 .number
 
 abbrev pub stepWord : ℕ → List ℕ → ℕ → Calls → ℕ
-stepWord e ws k c = getD (c .step e ws zeros zeros .words) k 0
+stepWord e ws k c = getD (c .step e ws zeros zeros 0 .words) k 0
 
+-- and from a count of n: the number given back, the count, and the writer at place k
+abbrev pub stepFrom : ℕ → ℕ → List ℕ → Calls → ℕ
+stepFrom n e ws c = c .step e ws zeros zeros n .number
+
+abbrev pub stepCount : ℕ → ℕ → List ℕ → Calls → ℕ
+stepCount n e ws c = c .step e ws zeros zeros n .count
+
+abbrev pub stepWriter : ℕ → ℕ → List ℕ → ℕ → Calls → ℕ
+stepWriter n e ws k c = getD (c .step e ws zeros zeros n .writers) k 0
+
+-- a run from a count of 0
 abbrev pub runNumber : List ℕ → List ℕ → List ℕ → List ℕ → Calls → ℕ
-runNumber es ws m w c = c .run es ws m w .number
+runNumber es ws m w c = c .run es ws m w 0 .number
 
 abbrev pub runDone : List ℕ → List ℕ → Calls → ℕ
-runDone es ws c = c .run es ws zeros zeros .done
+runDone es ws c = c .run es ws zeros zeros 0 .done
 
 abbrev pub runUnknown : List ℕ → List ℕ → Calls → ℕ
-runUnknown es ws c = c .run es ws zeros zeros .unknown
+runUnknown es ws c = c .run es ws zeros zeros 0 .unknown
 
 abbrev pub runOutOfRange : List ℕ → List ℕ → Calls → ℕ
-runOutOfRange es ws c = c .run es ws zeros zeros .out-of-range
+runOutOfRange es ws c = c .run es ws zeros zeros 0 .out-of-range
+
+-- and from a count of n: the count
+abbrev pub runCount : ℕ → List ℕ → List ℕ → Calls → ℕ
+runCount n es ws c = c .run es ws zeros zeros n .count
 
 abbrev pub glass : ℕ → ℕ → List ℕ → List ℕ → Calls → ℕ
 glass row column ws m c = c .glass row column ws m
@@ -106,17 +126,26 @@ aPut = "put\t5\t2\t167\n"
 unfoldable pub callRows : List (Observation Calls)
 callRows =
     -- pins above 3, and a buffer of another length, let pass; pins 3 refused
-    resetNumber 4 35 gives 2 not 0
-    ∷ resetNumber 0 34 gives 2 not 0
-    ∷ resetNumber 0 36 gives 2 not 0
-    ∷ resetNumber 3 35 gives 0 not 2
+    resetNumber 4 34 gives 2 not 0
+    ∷ resetNumber 0 33 gives 2 not 0
+    ∷ resetNumber 0 35 gives 2 not 0
+    ∷ resetNumber 3 34 gives 0 not 2
     -- nothing written, and written by a refused call; other pins
-    ∷ resetWord 3 35 PD gives 1 not 77
-    ∷ resetWord 4 35 PD gives 77 not 1
-    ∷ resetWord 3 35 PINS gives 3 not 0
+    ∷ resetWord 3 34 PD gives 1 not 77
+    ∷ resetWord 4 34 PD gives 77 not 1
+    ∷ resetWord 3 34 PINS gives 3 not 0
     -- ---- the answer as another number; the record not written back
     ∷ stepNumber START (words []) zeros zeros gives nothing not 0
-    ∷ stepWord START (words []) COUNT gives 1 not 0
+    ∷ stepWord START (words []) PHASE gives 1 not 0
+    -- the count not handed back, not taken in, not asked; changed by a step that is refused, and by words that stand for no record; the writer's number
+    ∷ stepCount 6 START (words []) gives 7 not 6
+    ∷ stepCount 6 START (words []) gives 7 not 1
+    ∷ stepFrom (2 ^ 64 - 1) START (words []) gives 4 not nothing
+    ∷ stepFrom (2 ^ 64 - 2) START (words []) gives nothing not 4
+    ∷ stepCount 6 261 (words []) gives 6 not 7
+    ∷ stepCount 6 START noWords gives 6 not 7
+    ∷ stepCount 6 START noWords gives 6 not 0
+    ∷ stepWriter 6 0xA7 (awaitingData []) 0 gives 7 not 1
     -- a command's answer as the plain acknowledge, and each of the three as another
     ∷ stepNumber 0x85 (awaiting []) zeros zeros gives commandTaken not acknowledged
     ∷ stepNumber 0x02 (awaiting []) zeros zeros gives commandUnknown not acknowledged
@@ -134,6 +163,12 @@ callRows =
     ∷ runDone (START ∷ 0x78 ∷ []) (words []) gives 2 not 1
     ∷ runDone (START ∷ 261 ∷ []) (words []) gives 1 not 2
     ∷ runDone (START ∷ []) noWords gives 0 not 1
+    -- the count after it: as it was, what was done given for it, the refused event counted, changed at a refused entry
+    ∷ runCount 6 (START ∷ 0x78 ∷ []) (words []) gives 8 not 6
+    ∷ runCount 6 (START ∷ 0x78 ∷ []) (words []) gives 8 not 2
+    ∷ runCount 6 (START ∷ 261 ∷ []) (words []) gives 7 not 8
+    ∷ runCount 6 (START ∷ []) noWords gives 6 not 7
+    ∷ runCount 6 (START ∷ []) noWords gives 6 not 0
     -- what was counted: exchanged; the events done given for it; lost where the run is refused; something at a refused entry
     ∷ runUnknown (commands (0x02 ∷ 0xE5 ∷ 0x02 ∷ [])) (words []) gives 2 not 1
     ∷ runOutOfRange (commands (0x02 ∷ 0xE5 ∷ 0x02 ∷ [])) (words []) gives 1 not 2

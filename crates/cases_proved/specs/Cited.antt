@@ -33,7 +33,7 @@ pub use Rattle.pulses.specs.declared.answer.Pulses.{Pulses}
 pub use Rattle.pulses.specs.Answer.{pulsesNumber}
 pub use Rattle.pulses.specs.Pulse.{pulsesOf}
 pub use Rattle.pulses.specs.Row.{PulseRow}
-pub use Rattle.record_words.specs.Words.{PINS, COUNT}
+pub use Rattle.record_words.specs.Words.{PINS, PHASE}
 pub use Rattle.host.specs.Calls.{Reset, Stepped, Ran}
 pub use Rattle.host.specs.Compiling.{Compiled}
 -- these are opened where a case is computed
@@ -43,7 +43,7 @@ unfoldable pub use Rattle.commands.specs.Command.{commandOf, answerTo}
 unfoldable pub use Rattle.display.specs.Display.{storedOf, columnOf, placeOf, nextAddress}
 unfoldable pub use Rattle.engine.specs.Event.{isAcknowledged}
 unfoldable pub use Rattle.phases.specs.Phases.{isAddressed, phaseAfterAddress, phaseAfterLastRead}
-unfoldable pub use Rattle.engine.specs.Step.{entryRefusal, eventRefusal, refusalOf, acknowledge, counted, applied, accepted, stepOf}
+unfoldable pub use Rattle.engine.specs.Step.{entryRefusal, eventRefusal, refusalOf, acknowledge, applied, accepted, stepOf}
 unfoldable pub use Rattle.phases.specs.Changes.{controlled, readByte, pulsed, sensed}
 unfoldable pub use Rattle.engine.specs.Run.{runFrom, runOf, tally, lastAnswer}
 unfoldable pub use Rattle.chip.specs.Plays.{Plays}

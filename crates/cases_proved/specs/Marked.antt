@@ -38,9 +38,9 @@ abbrev pub agrees : List Setting → Registers → Bool
 agrees [] r = true
 agrees (a ∷ rest) r = eqb (getD (values r) (a .register) 0) (a .value) && agrees rest r
 
--- a chip after reset with these registers set, and bytes with this RS awaited; all memory 0
+-- a chip after reset with these registers set, and bytes with this RS awaited; all memory 0, and the count too
 abbrev pub prepared : List Setting → Bool → State
-prepared before rs = state (inPhase (chipWith before) (EndlessBytes rs)) zeros zeros
+prepared before rs = state (inPhase (chipWith before) (EndlessBytes rs)) zeros zeros 0
 
 abbrev pub usesRegister : ℕ → Pixel → Bool
 usesRegister g dark = false

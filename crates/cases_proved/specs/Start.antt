@@ -17,34 +17,31 @@ abbrev pub withSettings : List Setting → Registers → Registers
 withSettings [] r = r
 withSettings (a ∷ rest) r = withSettings rest (put (a .register) (a .value) r)
 
--- pins 0, idle, count 0
+-- pins 0, idle
 abbrev pub chipWith : List Setting → Chip
 chipWith before = withRegisters (resetChip 0) (withSettings before resetRegisters)
 
 abbrev pub zeros : List ℕ
 zeros = replicate places 0
 
--- the same with all memory 0
+-- the same with all memory 0, and a count of 0
 abbrev pub upon : List Setting → State
-upon before = state (chipWith before) zeros zeros
+upon before = state (chipWith before) zeros zeros 0
 
 -- ---- the same chip and memories with something else changed
 
 abbrev pub counting : ℕ → State → State
-counting n s =
-    let c = s .chip in
-    state (record { registers = c .registers; pins = c .pins; status = c .status; «last_rs» = c .«last_rs»; phase = c .phase; count = n })
-    (s .memory) (s .writers)
+counting n s = state (s .chip) (s .memory) (s .writers) n
 
 abbrev pub withPins : ℕ → State → State
 withPins n s =
     let c = s .chip in
-    state (record { registers = c .registers; pins = n; status = c .status; «last_rs» = c .«last_rs»; phase = c .phase; count = c .count })
-    (s .memory) (s .writers)
+    state (record { registers = c .registers; pins = n; status = c .status; «last_rs» = c .«last_rs»; phase = c .phase })
+    (s .memory) (s .writers) (s .count)
 
 -- memories of these lengths
 abbrev pub lent : ℕ → ℕ → State → State
-lent n k s = state (s .chip) (replicate n 0) (replicate k 0)
+lent n k s = state (s .chip) (replicate n 0) (replicate k 0) (s .count)
 
 -- ---- what is shown
 

@@ -4,7 +4,7 @@
 //   answers A1 A2 ..                 one for each event, up to the first refused one
 //   done N refusal R unknown U out-of-range O
 //                                    of a run over all events on a fresh chip, R 0 if none; U and O of its commands were so answered
-//   record W0 W1 .. W34              after that run
+//   record W0 W1 .. W33 COUNT        after that run
 //   cell COLUMN BANK BYTE EVENT      for each written place, by bank, then column
 //   pulses ROW 5 P0 P1 P2 P3         for each of the glass's rows 8 to 11 that is lit in column 5
 mod cases;
@@ -31,10 +31,11 @@ fn answers(
     out: &mut [u8],
     at: usize,
 ) -> usize {
+    let mut count = 0;
     let mut next = at;
     let mut i = 0;
     while i < events.len() {
-        let answer = host::pcf8820_step(record, memory, writers, events[i]);
+        let answer = host::pcf8820_step(record, memory, writers, &mut count, events[i]);
         next = number(answer, out, next);
         if answer < 256 {
             break;
@@ -92,7 +93,7 @@ fn pulses(record: &[u64], memory: &[u8], row: u64, out: &mut [u8], at: usize) ->
 }
 
 fn step_by_step(pins: u64, events: &[u16], out: &mut [u8], at: usize) -> usize {
-    let mut record = [0u64; 35];
+    let mut record = [0u64; 34];
     let mut memory = [0u8; 1717];
     let mut writers = [0u64; 1717];
     host::pcf8820_reset(&mut record, pins);
@@ -106,6 +107,7 @@ fn run(
     record: &mut [u64],
     memory: &mut [u8],
     writers: &mut [u64],
+    count: &mut u64,
     events: &[u16],
     out: &mut [u8],
     at: usize,
@@ -117,6 +119,7 @@ fn run(
         record,
         memory,
         writers,
+        count,
         events,
         &mut done,
         &mut unknown,
@@ -129,9 +132,11 @@ fn run(
     print::byte(b'\n', out, next)
 }
 
-fn record_line(record: &[u64], out: &mut [u8], at: usize) -> usize {
+// The words of the record, and the count behind them.
+fn record_line(record: &[u64], count: u64, out: &mut [u8], at: usize) -> usize {
     let first = print::bytes(b"record", out, at);
-    let end = words(record, out, first);
+    let last = words(record, out, first);
+    let end = number(count, out, last);
     print::byte(b'\n', out, end)
 }
 
@@ -143,12 +148,21 @@ fn lit_rows(record: &[u64], memory: &[u8], out: &mut [u8], at: usize) -> usize {
 }
 
 fn at_once(pins: u64, events: &[u16], out: &mut [u8], at: usize) -> usize {
-    let mut record = [0u64; 35];
+    let mut record = [0u64; 34];
     let mut memory = [0u8; 1717];
     let mut writers = [0u64; 1717];
     host::pcf8820_reset(&mut record, pins);
-    let mut next = run(&mut record, &mut memory, &mut writers, events, out, at);
-    next = record_line(&record, out, next);
+    let mut count = 0;
+    let mut next = run(
+        &mut record,
+        &mut memory,
+        &mut writers,
+        &mut count,
+        events,
+        out,
+        at,
+    );
+    next = record_line(&record, count, out, next);
     next = cells(&memory, &writers, out, next);
     lit_rows(&record, &memory, out, next)
 }

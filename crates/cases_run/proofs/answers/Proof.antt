@@ -6,10 +6,10 @@ use Rattle.cases_run.proofs.answers.Statement.{statement}
 use Rattle.cases_run.proofs.answers.Tie as tie
 
 abbrev Inv-loop : tie.InvT-loop
-Inv-loop record₀ memory₀ writers₀ events out₀ at next₀ i₀ «record» memory writers out next i = (length «record» ≡ length record₀) × (length memory ≡ length memory₀) × (length writers ≡ length writers₀) × (length out ≡ length out₀)
+Inv-loop record₀ memory₀ writers₀ events out₀ at count₀ next₀ i₀ «record» memory writers out count next i = (length «record» ≡ length record₀) × (length memory ≡ length memory₀) × (length writers ≡ length writers₀) × (length out ≡ length out₀)
 
 abbrev μ-loop : tie.MeasureT-loop
-μ-loop record₀ memory₀ writers₀ events out₀ at next₀ i₀ «record» memory writers out next i = length events - i
+μ-loop record₀ memory₀ writers₀ events out₀ at count₀ next₀ i₀ «record» memory writers out count next i = length events - i
 
 loop-holds : tie.Need-loop-holds Inv-loop μ-loop
 loop-holds c = search needs
