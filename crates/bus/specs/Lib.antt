@@ -1,3 +1,4 @@
 pub mod Bus
+pub mod Phases
 pub mod Refusals
 pub mod Step
