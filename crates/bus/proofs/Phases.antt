@@ -1,6 +1,6 @@
 -- What an event does to a device's phase and pins, and that a sensor reading leaves the devices that it misses.
 use mathlib.Core.Bool.{Bool, true, false, cond, _&&_}
-use mathlib.Core.Path.{_≡_, refl, sym, ap, _∙_}
+use mathlib.Core.Path.{_≡_, refl}
 use Prim.Native.Nat.{ℕ, _-_, _<_, _≤_}
 use native.Mathlib.Omega.{arith}
 use borrow.Author.Tests.{leb-true}
@@ -14,7 +14,7 @@ use Rattle.engine.specs.declared.answer.Answer.the-variants.{Nothing}
 use Rattle.engine.specs.declared.event.Event.{Event}
 use Rattle.engine.specs.declared.event.Event.the-variants.{Byte, Start, Stop, ReadAcknowledged, ReadNotAcknowledged, Reset, Sensor, Unlisted}
 use Rattle.engine.specs.Event.{eventOf}
-use Rattle.engine.specs.Step.{After, nothingStored, onByte, applied}
+use Rattle.engine.specs.Step.{nothingStored, onByte, applied}
 use Rattle.engine.proofs.Events.{reading-event}
 use Rattle.bus.specs.Bus.{Device, alone, hasOtherPins}
 use Rattle.bus.specs.Phases.{phaseAfterByte, phaseAfter}

@@ -1,7 +1,8 @@
 -- Chips on one bus (document 02, W6): each has its record and its two lent memories, and the event count is the bus's.
 use mathlib.Core.Bool.{Bool, true, false, cond, not, _&&_, _||_}
 use mathlib.Core.List.{List, [], _∷_}
-use Prim.Native.Nat.{ℕ, _+_}
+use mathlib.Core.Path.{_≡_}
+use Prim.Native.Nat.{ℕ, zero, suc, _+_}
 use lib.Dec.{eqb, leb}
 use Rattle.registers.specs.declared.Chip.{Chip}
 use Rattle.registers.specs.declared.Phase.{Phase}
@@ -32,7 +33,13 @@ alone n d = state (d .chip) (d .memory) (d .writers) n
 abbrev pub deviceOf : State → Device
 deviceOf s = device (s .chip) (s .memory) (s .writers)
 
--- ---- all devices, and how many of them
+-- ---- a device by its place, all devices, and how many of them
+
+-- device d stands at place i, counted from 0
+abbrev pub At : ℕ → Device → List Device → Type 0
+At i d [] = ⊥
+At zero d (x ∷ ds) = x ≡ d
+At (suc i) d (x ∷ ds) = At i d ds
 
 abbrev pub every : (Device → Bool) → List Device → Bool
 every f [] = true

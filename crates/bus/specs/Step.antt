@@ -1,5 +1,5 @@
 -- One event of a bus (document 02, W6): each device takes it as a chip of its own would, and the bus answers what the one that answers says.
-use mathlib.Core.Bool.{Bool, cond, not, _&&_}
+use mathlib.Core.Bool.{Bool, cond, _&&_}
 use mathlib.Core.List.{List, [], _∷_, map}
 use Prim.Native.Nat.{ℕ, zero, suc, _+_}
 use lib.Dec.{eqb}

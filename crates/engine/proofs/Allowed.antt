@@ -60,7 +60,7 @@ byte-fit (EndlessBytes rs) b s fit = content-fit rs (EndlessBytes rs) b s fit
 byte-fit Reading b s fit = same-fit s _ refl fit
 byte-fit ReadEnded b s fit = same-fit s _ refl fit
 
-applied-fit : (v : Event) (s : State) → Fit s → Fit (applied v s .state)
+pub applied-fit : (v : Event) (s : State) → Fit s → Fit (applied v s .state)
 unfolding applied allowed pulsed sensed
 applied-fit (Byte b) s fit = byte-fit (s .chip .phase) b s fit
 applied-fit Start s fit = same-fit s _ refl fit

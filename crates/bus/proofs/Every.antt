@@ -1,0 +1,73 @@
+-- Tests of all devices and how many pass one, over devices that are changed one by one.
+use mathlib.Core.Bool.{Bool, true, false, cond, _&&_, _||_}
+use mathlib.Core.List.{List, [], _∷_, map}
+use mathlib.Core.Logic.{_⊎_, inl, inr}
+use mathlib.Core.Path.{_≡_, refl, sym, ap, _∙_}
+use Prim.Native.Nat.{ℕ, zero, suc, _≤_}
+use native.Mathlib.Omega.{arith}
+use Rattle.registers.proofs.Below.{false-true}
+use Rattle.registers.proofs.Within.{both-left, both-right}
+use Rattle.bus.specs.Bus.{Device, At, every, howMany}
+
+-- ---- tests
+
+pub joined : (a b : Bool) → a ≡ true → b ≡ true → a && b ≡ true
+joined a b ea eb = rw (ea, eb)
+
+pub either : (a b : Bool) → a || b ≡ true → (a ≡ true) ⊎ (b ≡ true)
+either true b h = inl refl
+either false b h = inr h
+
+pub or-left : (a b : Bool) → a ≡ true → a || b ≡ true
+or-left a b e = rw e
+
+pub or-right : (a b : Bool) → b ≡ true → a || b ≡ true
+or-right true b e = refl
+or-right false b e = e
+
+-- what passes a test that leads to another
+pub leads : (a b : Bool) → (a ≡ true → b ≡ true) → cond a 1 0 ≤ cond b 1 0
+leads true true so = omega arith
+leads true false so = absurd (false-true (so refl))
+leads false true so = omega arith
+leads false false so = omega arith
+
+-- ---- places
+
+-- all pass exactly if each at its place does
+pub every-at : (f : Device → Bool) (ds : List Device) → every f ds ≡ true → (i : ℕ) (d : Device) → At i d ds → f d ≡ true
+every-at f [] t i d a = absurd a
+every-at f (x ∷ ds) t zero d a = ap f (sym a) ∙ both-left (f x) (every f ds) t
+every-at f (x ∷ ds) t (suc i) d a = every-at f ds (both-right (f x) (every f ds) t) i d a
+
+pub at-every : (f : Device → Bool) (ds : List Device) → ((i : ℕ) (d : Device) → At i d ds → f d ≡ true) → every f ds ≡ true
+at-every f [] h = refl
+at-every f (x ∷ ds) h = joined (f x) (every f ds) (h 0 x refl) (at-every f ds (λ i. h (suc i)))
+
+pub at-map : (h : Device → Device) (ds : List Device) (i : ℕ) (d : Device) → At i d ds → At i (h d) (map h ds)
+at-map h [] i d a = absurd a
+at-map h (x ∷ ds) zero d a = ap h a
+at-map h (x ∷ ds) (suc i) d a = at-map h ds i d a
+
+-- ---- devices that are changed one by one
+
+module _ (f g : Device → Bool) (h : Device → Device) where
+  pub every-map : ((d : Device) → f d ≡ true → g (h d) ≡ true) → (ds : List Device) → every f ds ≡ true → every g (map h ds) ≡ true
+  every-map so [] t = refl
+  every-map so (d ∷ ds) t = joined (g (h d)) _ (so d (both-left (f d) (every f ds) t)) (every-map so ds (both-right (f d) (every f ds) t))
+
+  pub every-same : ((d : Device) → g (h d) ≡ f d) → (ds : List Device) → every g (map h ds) ≡ every f ds
+  every-same so [] = refl
+  every-same so (d ∷ ds) = rw (so d, every-same so ds)
+
+  pub as-many : ((d : Device) → g (h d) ≡ f d) → (ds : List Device) → howMany g (map h ds) ≡ howMany f ds
+  as-many so [] = refl
+  as-many so (d ∷ ds) = rw (so d, as-many so ds)
+
+  -- where all pass w: no more pass g after than f before
+  pub no-more :
+      (w : Device → Bool) → ((d : Device) → w d ≡ true → g (h d) ≡ true → f d ≡ true)
+      → (ds : List Device) → every w ds ≡ true → howMany g (map h ds) ≤ howMany f ds
+  no-more w so [] t = omega arith
+  no-more w so (d ∷ ds) t =
+      omega (arith, leads (g (h d)) (f d) (so d (both-left (w d) (every w ds) t)), no-more w so ds (both-right (w d) (every w ds) t))
