@@ -3,7 +3,7 @@ use mathlib.Core.Bool.{Bool, true, false, cond, _&&_, _||_}
 use mathlib.Core.List.{List, [], _∷_, map}
 use mathlib.Core.Logic.{_⊎_, inl, inr}
 use mathlib.Core.Path.{_≡_, refl, sym, ap, _∙_}
-use Prim.Native.Nat.{ℕ, zero, suc, _≤_}
+use Prim.Native.Nat.{ℕ, zero, suc, _+_, _≤_}
 use native.Mathlib.Omega.{arith}
 use Rattle.registers.proofs.Below.{false-true}
 use Rattle.registers.proofs.Within.{both-left, both-right}
@@ -24,6 +24,10 @@ or-left a b e = rw e
 pub or-right : (a b : Bool) → b ≡ true → a || b ≡ true
 or-right true b e = refl
 or-right false b e = e
+
+pub not-so : (t : Bool) → (t ≡ true → ⊥) → t ≡ false
+not-so true n = absurd (n refl)
+not-so false n = refl
 
 -- what passes a test that leads to another
 pub leads : (a b : Bool) → (a ≡ true → b ≡ true) → cond a 1 0 ≤ cond b 1 0
@@ -48,6 +52,43 @@ pub at-map : (h : Device → Device) (ds : List Device) (i : ℕ) (d : Device) �
 at-map h [] i d a = absurd a
 at-map h (x ∷ ds) zero d a = ap h a
 at-map h (x ∷ ds) (suc i) d a = at-map h ds i d a
+
+-- ---- how many
+
+none-of : (f : Device → Bool) (ds : List Device) → ((i : ℕ) (d : Device) → At i d ds → f d ≡ true → ⊥) → howMany f ds ≡ 0
+none-of f [] h = refl
+none-of f (x ∷ ds) h =
+    let rest = none-of f ds (λ i. h (suc i)) in
+    rw (not-so (f x) (h 0 x refl)) (omega arith)
+
+some-of : (f : Device → Bool) (ds : List Device) (i : ℕ) (d : Device) → At i d ds → f d ≡ true → 1 ≤ howMany f ds
+some-of f [] i d a t = absurd a
+some-of f (x ∷ ds) zero d a t = rw (ap f a ∙ t) (omega arith)
+some-of f (x ∷ ds) (suc i) d a t = omega (arith, some-of f ds i d a t)
+
+-- at most one passes exactly if two places whose devices do are one place
+pub one-place :
+    (f : Device → Bool) (ds : List Device) → howMany f ds ≤ 1
+    → (i j : ℕ) (c d : Device) → At i c ds → At j d ds → f c ≡ true → f d ≡ true → i ≡ j
+one-place f [] l i j c d a b p q = absurd a
+one-place f (x ∷ ds) l zero zero c d a b p q = refl
+one-place f (x ∷ ds) l zero (suc j) c d a b p q =
+    let here : cond {A = ℕ} (f x) 1 0 ≡ 1 = rw (ap f a ∙ p) in
+    absurd (omega (arith, some-of f ds j d b q))
+one-place f (x ∷ ds) l (suc i) zero c d a b p q =
+    let here : cond {A = ℕ} (f x) 1 0 ≡ 1 = rw (ap f b ∙ q) in
+    absurd (omega (arith, some-of f ds i c a p))
+one-place f (x ∷ ds) l (suc i) (suc j) c d a b p q = ap suc (one-place f ds (omega arith) i j c d a b p q)
+
+pub place-one :
+    (f : Device → Bool) (ds : List Device) → ((i j : ℕ) (c d : Device) → At i c ds → At j d ds → f c ≡ true → f d ≡ true → i ≡ j)
+    → howMany f ds ≤ 1
+place-one f [] h = omega arith
+place-one f (x ∷ ds) h = go (f x) refl (place-one f ds (λ i j c d a b p q. let same = h (suc i) (suc j) c d a b p q in omega arith))
+  where
+    go : (t : Bool) → f x ≡ t → howMany f ds ≤ 1 → cond t 1 0 + howMany f ds ≤ 1
+    go true t rest = omega (arith, none-of f ds (λ i d a p. let same = h 0 (suc i) x d refl a t p in omega arith))
+    go false t rest = omega arith
 
 -- ---- devices that are changed one by one
 

@@ -121,7 +121,7 @@ last-read (EndlessBytes rs) = stays (EndlessBytes rs)
 last-read Reading = record { idle = refl; awaiting = refl; ignoring = refl; past = refl }
 last-read ReadEnded = stays ReadEnded
 
-idle-is : (p : Phase) → isIdlePhase p ≡ true → p ≡ Idle
+pub idle-is : (p : Phase) → isIdlePhase p ≡ true → p ≡ Idle
 idle-is Idle e = refl
 idle-is AddressAwaited e = absurd (false-true e)
 idle-is Ignoring e = absurd (false-true e)
@@ -131,7 +131,7 @@ idle-is (EndlessBytes rs) e = absurd (false-true e)
 idle-is Reading e = absurd (false-true e)
 idle-is ReadEnded e = absurd (false-true e)
 
-awaiting-is : (p : Phase) → isAwaitingPhase p ≡ true → p ≡ AddressAwaited
+pub awaiting-is : (p : Phase) → isAwaitingPhase p ≡ true → p ≡ AddressAwaited
 awaiting-is Idle e = absurd (false-true e)
 awaiting-is AddressAwaited e = refl
 awaiting-is Ignoring e = absurd (false-true e)

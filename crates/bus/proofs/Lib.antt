@@ -1,3 +1,4 @@
 pub mod Every
 pub mod Fits
 pub mod Phases
+pub mod Refusals

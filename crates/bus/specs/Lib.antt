@@ -2,3 +2,4 @@ pub mod Bus
 pub mod Phases
 pub mod Refusals
 pub mod Step
+pub mod When

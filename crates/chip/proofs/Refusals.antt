@@ -16,11 +16,11 @@ use Rattle.chip.specs.When.{ListedEvent, Lengths, When}
 
 -- ---- listed events
 
-listed-true : (e : ℕ) → ListedEvent e → isListedEvent e ≡ true
+pub listed-true : (e : ℕ) → ListedEvent e → isListedEvent e ≡ true
 listed-true e (inl h) = simp (le-leb e 260 (omega arith))
 listed-true e (inr h) = simp (le-leb 512 e (omega (arith, h .0)), le-leb e 767 (omega (arith, h .1))) (or-true (leb e 260))
 
-is-listed-event : (e : ℕ) → isListedEvent e ≡ true → ListedEvent e
+pub is-listed-event : (e : ℕ) → isListedEvent e ≡ true → ListedEvent e
 is-listed-event e = go (leb e 260) (leb 512 e) (leb e 767) refl refl refl
   where
     go : (a b c : Bool) → leb e 260 ≡ a → leb 512 e ≡ b → leb e 767 ≡ c → a || (b && c) ≡ true → ListedEvent e
@@ -29,7 +29,7 @@ is-listed-event e = go (leb e 260) (leb 512 e) (leb e 767) refl refl refl
     go false true false ea eb ec t = absurd (false-true t)
     go false false c ea eb ec t = absurd (false-true t)
 
-listed-false : (e : ℕ) → (ListedEvent e → ⊥) → isListedEvent e ≡ false
+pub listed-false : (e : ℕ) → (ListedEvent e → ⊥) → isListedEvent e ≡ false
 listed-false e n = go (isListedEvent e) refl
   where
     go : (t : Bool) → isListedEvent e ≡ t → t ≡ false
