@@ -1,4 +1,6 @@
+pub mod Answers
 pub mod Every
 pub mod Fits
 pub mod Phases
 pub mod Refusals
+pub mod Speaking

@@ -41,6 +41,13 @@ At i d [] = ⊥
 At zero d (x ∷ ds) = x ≡ d
 At (suc i) d (x ∷ ds) = At i d ds
 
+-- a device, at some place, of which this holds
+pub record Somewhere (holds : Device → Type 0) (ds : List Device) : Type 0 where
+  pub place : ℕ
+  pub which : Device
+  pub stands : At place which ds
+  pub so : holds which
+
 abbrev pub every : (Device → Bool) → List Device → Bool
 every f [] = true
 every f (d ∷ ds) = f d && every f ds

@@ -1,3 +1,4 @@
+pub mod Answers
 pub mod Bus
 pub mod Phases
 pub mod Refusals
