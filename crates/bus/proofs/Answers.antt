@@ -1,6 +1,6 @@
 -- What the bus answers to an accepted event.
 use mathlib.Core.Bool.{Bool, true, false}
-use mathlib.Core.List.{List, [], _∷_, map}
+use mathlib.Core.List.{List, [], _∷_}
 use mathlib.Core.Logic.{_⊎_, _↔_, inl, inr}
 use mathlib.Core.Path.{_≡_, refl, sym, ap, _∙_, subst}
 use Prim.Native.Nat.{ℕ, _+_, _<_}
@@ -25,11 +25,12 @@ use Rattle.bus.specs.Answers.{Acknowledges, AwaitsCommand, IsRead}
 use Rattle.bus.specs.Bus.{Device, Bus, At, Somewhere, alone, deviceOf}
 use Rattle.bus.specs.Refusals.{isSensorReading, sentRefusal, busRefusal}
 use Rattle.bus.specs.Step.{BusAfter, misses, heardBy, deviceAfter, unanswered, orElse, answerOf, busAccepted, busStepOf}
+use Rattle.bus.proofs.Every.{map-same}
 use Rattle.bus.proofs.Phases.{missed, not-missed, reading-is-sensor}
 use Rattle.bus.proofs.Refusals.{accepted-bus-step, bus-accepts, accepted-alone}
-use Rattle.bus.proofs.Speaking.{others-ignoring, reading-past, command-past, no-reading, misses-none, Says, answered-by, Quiet, quiet-all, one-speaks}
-use Rattle.bus.proofs.Speaking.{heard-by-all, heard-byte, one-acknowledges, none-acknowledges, Silent, unanswered-silent, Unrefused, heard-unrefused}
-use Rattle.bus.proofs.Speaking.{read-or, heard-read, unread-quiet, none-read}
+use Rattle.bus.proofs.Speaking.{others-ignoring, reading-past, command-past, no-reading, misses-none, Says, answered-by}
+use Rattle.bus.proofs.Speaking.{Quiet, quiet-all, one-speaks, heard-by-all, heard-byte, one-acknowledges, none-acknowledges}
+use Rattle.bus.proofs.Speaking.{Silent, unanswered-silent, Unrefused, heard-unrefused, read-or, heard-read, unread-quiet, none-read}
 
 -- ---- the laws, of an accepted event
 
@@ -188,10 +189,6 @@ module _ (e k : ℕ) (b : Bus) (h : busRefusal e k b ≡ 0) where
   sensor-answer t = all-quiet (λ s. ap (λ (v : Event). applied v s .answer) (reading-is-sensor e t)) ∙ ap unanswered (reading-is-sensor e t)
 
 -- ---- the number added
-
-map-same : (f g : Device → Device) → ((d : Device) → f d ≡ g d) → (ds : List Device) → map f ds ≡ map g ds
-map-same f g so [] = refl
-map-same f g so (d ∷ ds) = rw (so d, map-same f g so ds)
 
 -- the number added is ignored but for sensor readings
 pub added-number : (e k j : ℕ) (b : Bus) → isSensorReading e ≡ false → busStepOf e k b ≡ busStepOf e j b

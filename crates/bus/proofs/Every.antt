@@ -53,6 +53,12 @@ at-map h [] i d a = absurd a
 at-map h (x ∷ ds) zero d a = ap h a
 at-map h (x ∷ ds) (suc i) d a = at-map h ds i d a
 
+-- at a place stands one device
+pub at-same : (ds : List Device) (i : ℕ) (c d : Device) → At i c ds → At i d ds → c ≡ d
+at-same [] i c d a b = absurd a
+at-same (x ∷ ds) zero c d a b = sym a ∙ b
+at-same (x ∷ ds) (suc i) c d a b = at-same ds i c d a b
+
 -- ---- how many
 
 none-of : (f : Device → Bool) (ds : List Device) → ((i : ℕ) (d : Device) → At i d ds → f d ≡ true → ⊥) → howMany f ds ≡ 0
@@ -91,6 +97,10 @@ place-one f (x ∷ ds) h = go (f x) refl (place-one f ds (λ i j c d a b p q. le
     go false t rest = omega arith
 
 -- ---- devices that are changed one by one
+
+pub map-same : (f g : Device → Device) → ((d : Device) → f d ≡ g d) → (ds : List Device) → map f ds ≡ map g ds
+map-same f g so [] = refl
+map-same f g so (d ∷ ds) = rw (so d, map-same f g so ds)
 
 module _ (f g : Device → Bool) (h : Device → Device) where
   pub every-map : ((d : Device) → f d ≡ true → g (h d) ≡ true) → (ds : List Device) → every f ds ≡ true → every g (map h ds) ≡ true
