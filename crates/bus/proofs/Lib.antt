@@ -5,3 +5,4 @@ pub mod Phases
 pub mod Reach
 pub mod Refusals
 pub mod Speaking
+pub mod Wrong

@@ -102,7 +102,8 @@ others-ignore ds = (there, back)
     back : OthersIgnore ds → onePast ds ≡ true
     back h = joined _ _ (at-every isSettled ds (λ i d a. untold d (h .ignoring-or-past i d a))) (le-leb _ _ (place-one isPast ds (h .one-past)))
 
-shares : (ds : List Device) → (canShare ds ≡ true) ↔ Sharing ds
+-- which devices can share a bus
+pub shares : (ds : List Device) → (canShare ds ≡ true) ↔ Sharing ds
 shares ds = (there, back)
   where
     told :
@@ -250,16 +251,10 @@ refused-changes-nothing e k b r h = rw h
 
 -- 13 is for sensor readings alone
 pub pins-of-readings : (e k : ℕ) (b : Bus) → isSensorReading e ≡ false → busRefusal e k b ≡ 13 → ⊥
-pins-of-readings e k b t h = go 13 refl (exactly-when e k b 13 .0 h)
+pins-of-readings e k b t h = go (exactly-when e k b 13 .0 h)
   where
-    go : (r : ℕ) → r ≡ 13 → When e k b r → ⊥
-    go r q (none s) = omega arith
-    go r q (not-long n) = omega arith
-    go r q (not-allowed l n) = omega arith
-    go r q (not-sharing l a n) = omega arith
-    go r q (not-listed s n) = omega arith
-    go r q (no-such-pins s low high above) = true-false (sym (is-sensor e low high) ∙ t)
-    go r q (count-full s l p f) = omega arith
+    go : When e k b 13 → ⊥
+    go (no-such-pins s low high above) = true-false (sym (is-sensor e low high) ∙ t)
 
 -- ---- an accepted event
 
@@ -270,16 +265,10 @@ module _ (e k : ℕ) (b : Bus) (h : busRefusal e k b ≡ 0) where
 
   -- its devices are fit, its number listed, the pins named and the count not full
   pub bus-accepts : Accepts e k b
-  bus-accepts = go 0 refl (exactly-when e k b 0 .0 h)
+  bus-accepts = go (exactly-when e k b 0 .0 h)
     where
-      go : (r : ℕ) → r ≡ 0 → When e k b r → Accepts e k b
-      go r q (none s) = s
-      go r q (not-long n) = absurd (omega arith)
-      go r q (not-allowed l n) = absurd (omega arith)
-      go r q (not-sharing l a n) = absurd (omega arith)
-      go r q (not-listed s n) = absurd (omega arith)
-      go r q (no-such-pins s low high above) = absurd (omega arith)
-      go r q (count-full s l p f) = absurd (omega arith)
+      go : When e k b 0 → Accepts e k b
+      go (none accepts) = accepts
 
   pub accepted-bus-fit : BusFit (b .devices)
   accepted-bus-fit = sound-fit (b .devices) .1 (bus-accepts .sound)
