@@ -1,6 +1,7 @@
 pub mod Answers
 pub mod Every
 pub mod Fits
+pub mod Laws
 pub mod Phases
 pub mod Reach
 pub mod Refusals
