@@ -145,7 +145,7 @@ awaiting-is ReadEnded e = absurd (false-true e)
 abbrev isSettledPhase : Phase → Bool
 isSettledPhase p = isIgnoringPhase p || isPastPhase p
 
-abbrev isSettled : Device → Bool
+abbrev pub isSettled : Device → Bool
 isSettled d = isSettledPhase (d .chip .phase)
 
 -- an address byte settles every chip, and brings those past their address whose pins it names

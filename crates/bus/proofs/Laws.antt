@@ -1,10 +1,12 @@
 -- What is promised of chips on one bus, event by event, in one place: read this file first. The work stands in the files beside it.
 use mathlib.Core.Bool.{true, false}
-use mathlib.Core.List.{[], _∷_, map}
+use mathlib.Core.List.{List, [], _∷_, map}
 use mathlib.Core.Logic.{_↔_}
 use mathlib.Core.Path.{_≡_, refl, subst}
-use Prim.Native.Nat.{ℕ, zero, suc, _+_, _-_, _<_, _≤_}
+use Prim.Native.Nat.{ℕ, zero, suc, _+_, _-_, _^_, _<_, _≤_}
+use lib.ListN.{length}
 use Rattle.registers.specs.declared.Phase.the-variants.{Idle, AddressAwaited}
+use Rattle.registers.specs.State.{places}
 use Rattle.commands.specs.declared.answer.CommandAnswer.{CommandAnswer}
 use Rattle.commands.specs.Command.{answerTo}
 use Rattle.phases.specs.Changes.{readByte, sensed}
@@ -12,12 +14,13 @@ use Rattle.phases.specs.Phases.{isReading}
 use Rattle.engine.specs.declared.answer.Answer.the-variants.{Refused, Nothing, Command, Read}
 use Rattle.engine.specs.Event.{isAcknowledged}
 use Rattle.engine.specs.Step.{After, stepOf}
+use Rattle.chip.specs.When.{ListedEvent}
 use Rattle.bus.specs.Answers.{Acknowledges, AwaitsCommand, IsRead}
-use Rattle.bus.specs.Bus.{Device, Bus, bus, At, Somewhere, alone, deviceOf, isPast}
+use Rattle.bus.specs.Bus.{Device, Bus, bus, freshDevices, At, Somewhere, alone, deviceOf, isPast}
 use Rattle.bus.specs.Reach.{withChip, nowIn, pulsedDevice, KeptButPhase, HasPins}
 use Rattle.bus.specs.Refusals.{isSensorReading, busRefusal}
 use Rattle.bus.specs.Step.{busAfter, misses, deviceAfter, busStepOf}
-use Rattle.bus.specs.When.{Sound, When}
+use Rattle.bus.specs.When.{Sound, PinsNamed, When}
 use Rattle.bus.proofs.Answers as Answers
 use Rattle.bus.proofs.Fits as Fits
 use Rattle.bus.proofs.Reach as Reach
@@ -140,6 +143,12 @@ module _ (k : ℕ) (b : Bus) where
   stop-law = Reach.stop-reaches k b
 
 -- ---- four chips
+
+-- four chips as a reset leaves them, with the pins 0 to 3 and memories 1,717 long, take every listed event while the count has room
+pub fresh-accepts :
+    (memories writers : ℕ → List ℕ) → ((pins : ℕ) → (length (memories pins) ≡ places) × (length (writers pins) ≡ places))
+    → (e k n : ℕ) → ListedEvent e → PinsNamed e k → (n ≡ 2 ^ 64 - 1 → ⊥) → busRefusal e k (bus (freshDevices memories writers) n) ≡ 0
+fresh-accepts = Refusals.fresh-accepts
 
 -- four that 1, 2 and 12 let pass have the pins 0, 1, 2 and 3
 pub four-pins : (a b c d : Device) → Sound (a ∷ b ∷ c ∷ d ∷ []) → (p : ℕ) → p ≤ 3 → Somewhere (HasPins p) (a ∷ b ∷ c ∷ d ∷ [])

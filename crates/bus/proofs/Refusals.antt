@@ -10,22 +10,24 @@ use lib.Dec.{eqb, leb, ltb}
 use lib.ListN.{length}
 use Rattle.registers.specs.declared.Phase.{Phase}
 use Rattle.registers.specs.declared.Phase.the-variants.{Idle, AddressAwaited, Ignoring, ControlAwaited, OneByte, EndlessBytes, Reading, ReadEnded}
+use Rattle.registers.specs.Record.{allowed, resetChip}
 use Rattle.registers.specs.Refusals.{refuse, _then_, isListedEvent}
 use Rattle.registers.specs.State.{places}
 use Rattle.registers.proofs.Below.{false-true, true-false, or-true}
 use Rattle.registers.proofs.Within.{both-left, both-right}
 use Rattle.engine.specs.declared.answer.Answer.the-variants.{Refused}
 use Rattle.engine.specs.Step.{refusalOf}
+use Rattle.chip.specs.When.{ListedEvent}
 use Rattle.chip.proofs.Refusals as Chip
 use Rattle.chip.proofs.Refusals.{listed-true, listed-false, is-listed-event}
-use Rattle.bus.specs.Bus.{Device, Bus, bus, At, alone, every, howMany, isIgnoringPhase, isIdle, awaitsAddress, isIgnoring, isPast}
-use Rattle.bus.specs.Bus.{hasOtherPins, pinsDiffer, onePast, phasesAgree}
+use Rattle.bus.specs.Bus.{Device, device, Bus, bus, freshDevices, At, alone, every, howMany, isIgnoringPhase, isIdle, awaitsAddress}
+use Rattle.bus.specs.Bus.{isIgnoring, isPast, hasOtherPins, pinsDiffer, onePast, phasesAgree}
 use Rattle.bus.specs.Refusals.{isLong, isAllowed, canShare, devicesRefusal, isSensorReading, sentRefusal, busRefusal, BusFit}
 use Rattle.bus.specs.Step.{busAfter, busAccepted, busStepOf}
 use Rattle.bus.specs.When.{AllLong, AllAllowed, OwnPins, AllIn, OthersIgnore, Sharing, Sound, PinsNamed, Accepts, When}
 use Rattle.bus.specs.When.{none, not-long, not-allowed, not-sharing, not-listed, no-such-pins, count-full}
 use Rattle.bus.proofs.Every.{joined, either, or-left, or-right, not-so, every-at, at-every, one-place, place-one}
-use Rattle.bus.proofs.Fits.{fits-alone, idle-is, awaiting-is}
+use Rattle.bus.proofs.Fits.{fits-alone, idle-is, awaiting-is, isSettled}
 use Rattle.bus.proofs.Phases.{is-reading}
 
 -- ---- each test in words
@@ -77,9 +79,6 @@ ignoring-is (OneByte rs) e = absurd (false-true e)
 ignoring-is (EndlessBytes rs) e = absurd (false-true e)
 ignoring-is Reading e = absurd (false-true e)
 ignoring-is ReadEnded e = absurd (false-true e)
-
-abbrev isSettled : Device → Bool
-isSettled d = isIgnoring d || isPast d
 
 others-ignore : (ds : List Device) → (onePast ds ≡ true) ↔ OthersIgnore ds
 others-ignore ds = (there, back)
@@ -278,3 +277,26 @@ module _ (e k : ℕ) (b : Bus) (h : busRefusal e k b ≡ 0) where
   accepted-alone i d a =
       let fit = fits-alone (b .count) (b .devices) accepted-bus-fit i d a in
       Chip.when-so e (alone (b .count) d) 0 (fit, bus-accepts .listed, bus-accepts .room)
+
+-- ---- four chips after a reset
+
+module _ (memories writers : ℕ → List ℕ) (long : (pins : ℕ) → (length (memories pins) ≡ places) × (length (writers pins) ≡ places)) where
+  -- 1, 2 and 12 let them pass
+  pub fresh-sound : Sound (freshDevices memories writers)
+  unfolding allowed
+  fresh-sound =
+      let ds = freshDevices memories writers in
+      let each : (pins : ℕ) → isLong (device (resetChip pins) (memories pins) (writers pins)) ≡ true
+      = λ pins. joined _ _ (eq-eqb _ _ (long pins .0)) (eq-eqb _ _ (long pins .1))
+      in
+      sound-fit ds .0 (record {
+        long = rw (each 0, each 1, each 2, each 3);
+        allowed = refl;
+        pins-differ = refl;
+        phases-agree = refl;
+      })
+
+  -- and the bus takes every listed event
+  pub fresh-accepts : (e k n : ℕ) → ListedEvent e → PinsNamed e k → (n ≡ 2 ^ 64 - 1 → ⊥) → busRefusal e k (bus (freshDevices memories writers) n) ≡ 0
+  fresh-accepts e k n listed named room =
+      exactly-when e k (bus (freshDevices memories writers) n) 0 .1 (none (record { sound = fresh-sound; listed = listed; named = named; room = room }))

@@ -1,12 +1,13 @@
 -- Chips on one bus (document 02, W6): each has its record and its two lent memories, and the event count is the bus's.
 use mathlib.Core.Bool.{Bool, true, false, cond, not, _&&_, _||_}
-use mathlib.Core.List.{List, [], _∷_}
+use mathlib.Core.List.{List, [], _∷_, map}
 use mathlib.Core.Path.{_≡_}
 use Prim.Native.Nat.{ℕ, zero, suc, _+_}
 use lib.Dec.{eqb, leb}
 use Rattle.registers.specs.declared.Chip.{Chip}
 use Rattle.registers.specs.declared.Phase.{Phase}
 use Rattle.registers.specs.declared.Phase.the-variants.{Idle, AddressAwaited, Ignoring, ControlAwaited, OneByte, EndlessBytes, Reading, ReadEnded}
+use Rattle.registers.specs.Record.{resetChip}
 use Rattle.registers.specs.State.{State, state}
 
 -- a chip's record with its display bytes and writer numbers
@@ -32,6 +33,10 @@ alone n d = state (d .chip) (d .memory) (d .writers) n
 
 abbrev pub deviceOf : State → Device
 deviceOf s = device (s .chip) (s .memory) (s .writers)
+
+-- four chips as a reset leaves them, with the pins 0 to 3 and these memories
+abbrev pub freshDevices : (ℕ → List ℕ) → (ℕ → List ℕ) → List Device
+freshDevices memories writers = map (λ (pins : ℕ). device (resetChip pins) (memories pins) (writers pins)) (0 ∷ 1 ∷ 2 ∷ 3 ∷ [])
 
 -- ---- a device by its place, all devices, and how many of them
 
