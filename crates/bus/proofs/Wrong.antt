@@ -226,8 +226,8 @@ four-is-not-before-13 b q = go (exactly-when 512 4 b 4 .0 q)
     go (count-full sound listed named full) = let l = named (omega arith) (omega arith) in omega arith
 
 -- 13 for a START, whatever the number added
-pub start-names-no-pins : (b : Bus) → busRefusal 256 4 b ≡ 13 → ⊥
-start-names-no-pins b q = pins-of-readings 256 4 b refl q
+pub start-names-no-pins : (k : ℕ) (b : Bus) → busRefusal 256 k b ≡ 13 → ⊥
+start-names-no-pins k b q = pins-of-readings 256 k b refl q
 
 -- the pins that are named cut to a byte
 pub pins-are-not-cut : (b : Bus) → busRefusal 512 256 b ≡ 0 → ⊥
