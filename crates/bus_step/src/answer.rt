@@ -3,22 +3,26 @@ ghost use mathlib.Core.Path.{_≡_};
 ghost use Rattle.engine.specs.Event.{eventOf};
 ghost use Rattle.bus.specs.Step.{orElse, unanswered};
 use engine::answer::Answer;
+use engine::event::Event;
 
 // Where no chip answers: a byte is not acknowledged, a read finds the line high.
-pub fn unanswered(event: u16) -> Answer
-    ensures { λ r. ⌜ r ≡ unanswered (eventOf event) ⌝ }
+fn unanswered(event: Event) -> Answer
+    ensures { λ r. ⌜ r ≡ unanswered event ⌝ }
 {
-    if event < 256 {
-        return Answer::NotAcknowledged;
+    match event {
+        Event::Byte(_) => Answer::NotAcknowledged,
+        Event::Start => Answer::Nothing,
+        Event::Stop => Answer::Nothing,
+        Event::ReadAcknowledged => Answer::Read(255),
+        Event::ReadNotAcknowledged => Answer::Read(255),
+        Event::Reset => Answer::Nothing,
+        Event::Sensor(_) => Answer::Nothing,
+        Event::Unlisted => Answer::Nothing,
     }
-    if (event == 258) | (event == 259) {
-        return Answer::Read(255);
-    }
-    Answer::Nothing
 }
 
 // A chip's answer, or what else is heard where it has none.
-pub fn or_else(answer: Answer, other: Answer) -> Answer
+fn or_else(answer: Answer, other: Answer) -> Answer
     ensures { λ r. ⌜ r ≡ orElse answer other ⌝ }
 {
     match answer {
@@ -35,4 +39,21 @@ pub fn or_else(answer: Answer, other: Answer) -> Answer
             }
         }
     }
+}
+
+// The four chips' answers as one.
+pub fn of_four(
+    event: u16,
+    answer0: Answer,
+    answer1: Answer,
+    answer2: Answer,
+    answer3: Answer,
+) -> Answer
+    ensures { λ r. ⌜ r ≡ orElse answer0 (orElse answer1 (orElse answer2 (orElse answer3 (unanswered (eventOf event))))) ⌝ }
+{
+    let other = unanswered(Event::of(event));
+    or_else(
+        answer0,
+        or_else(answer1, or_else(answer2, or_else(answer3, other))),
+    )
 }

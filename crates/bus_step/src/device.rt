@@ -19,7 +19,8 @@ pub fn hear(
     ensures { λ r. ⌜ after (r .answer) (r .chip) (now (memory .exit)) (now (writers .exit)) number
         ≡ heardBy event pins number (device chip (now (memory .entry)) (now (writers .entry))) ⌝ }
 {
-    if crate::refusal::is_sensor_reading(event) & (chip.pins as u64 != pins) {
+    let own_pins = chip.pins as u64;
+    if crate::refusal::is_sensor_reading(event) & (own_pins != pins) {
         return Applied {
             answer: Answer::Nothing,
             chip,

@@ -64,15 +64,12 @@ fn deliver(
     let answer1 = heard1.answer;
     let answer2 = heard2.answer;
     let answer3 = heard3.answer;
-    let answer = answer::or_else(answer3, answer::unanswered(event));
-    let answer = answer::or_else(answer2, answer);
-    let answer = answer::or_else(answer1, answer);
     let chip0 = heard0.chip;
     let chip1 = heard1.chip;
     let chip2 = heard2.chip;
     let chip3 = heard3.chip;
     Delivered {
-        answer: answer::or_else(answer0, answer),
+        answer: answer::of_four(event, answer0, answer1, answer2, answer3),
         chips: Chips {
             chip0,
             chip1,
@@ -103,9 +100,9 @@ pub fn step(
         (now (memory2 .entry)) (now (writers2 .entry)) (now (memory3 .entry)) (now (writers3 .entry))) count) ⌝ }
 {
     let long = refusal::is_long(memory0.len(), writers0.len())
-        & refusal::is_long(memory1.len(), writers1.len())
-        & refusal::is_long(memory2.len(), writers2.len())
-        & refusal::is_long(memory3.len(), writers3.len());
+        & (refusal::is_long(memory1.len(), writers1.len())
+            & (refusal::is_long(memory2.len(), writers2.len())
+                & refusal::is_long(memory3.len(), writers3.len())));
     let refused = refusal::of_step(event, pins, chips, count, long);
     if refused != 0 {
         return BusStepped {

@@ -1,6 +1,7 @@
 // The refusals of a bus event, in their order: 1, 2, 12, 3, 13, 4; 0 is none.
 ghost use mathlib.Core.Bool.{_&&_};
 ghost use mathlib.Core.Path.{_≡_};
+ghost use Prim.Native.Nat.{_<_};
 ghost use lib.Dec.{eqb};
 ghost use Rattle.registers.specs.Refusals.{_then_};
 ghost use Rattle.registers.specs.State.{places};
@@ -63,13 +64,19 @@ fn of_event(event: u16, pins: u64, count: u64) -> u8
     if count == 18446744073709551615 { 4 } else { 0 }
 }
 
-// All six in their order.
+// The first refusal of two.
+fn first_of(first: u8, later: u8) -> u8
+    ensures { λ r. ⌜ r ≡ first then later ⌝ }
+{
+    if first != 0 { first } else { later }
+}
+
+// All six in their order; where there is none, the event can be counted.
 pub fn of_step(event: u16, pins: u64, chips: Chips, count: u64, long: bool) -> u8
     ensures { λ r. ⌜ r ≡ devicesRefusalFor long (recordsOf chips) then sentRefusal event pins count ⌝ }
+    ensures { λ r. ⌜ (r ≡ 0 → count < 18446744073709551615) ⌝ }
 {
-    let devices = of_devices(chips, long);
-    if devices != 0 {
-        return devices;
-    }
-    of_event(event, pins, count)
+    let of_devices = of_devices(chips, long);
+    let of_event = of_event(event, pins, count);
+    first_of(of_devices, of_event)
 }

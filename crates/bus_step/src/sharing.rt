@@ -1,10 +1,11 @@
 // Which chips can share a bus.
-ghost use mathlib.Core.Bool.{_||_};
+ghost use mathlib.Core.Bool.{cond, _&&_};
 ghost use mathlib.Core.Path.{_≡_};
-ghost use Rattle.bus.specs.Bus.{every, howMany, isIdle, awaitsAddress, isIgnoring, isPast, onePast, phasesAgree, pinsDiffer};
-ghost use Rattle.bus.specs.Bus.{isIdlePhase, isAwaitingPhase, isIgnoringPhase, isPastPhase};
-ghost use Rattle.bus_step.specs.Four.{recordsOf};
+ghost use Prim.Native.Nat.{_≤_};
+ghost use lib.Dec.{leb};
+ghost use Rattle.bus.specs.Bus.{isIdlePhase, isAwaitingPhase, isPastPhase, phasesAgree, pinsDiffer};
 ghost use Rattle.bus.specs.Refusals.{canShare};
+ghost use Rattle.bus_step.specs.Four.{recordsOf, allOfFour, manyOfFour, isInMessage};
 use crate::Chips;
 use registers::Phase;
 
@@ -38,29 +39,14 @@ fn is_awaiting(phase: Phase) -> bool
     }
 }
 
-fn is_ignoring(phase: Phase) -> bool
-    ensures { λ r. ⌜ r ≡ isIgnoringPhase phase ⌝ }
+// Ignoring the rest of a message, or past its address in one.
+fn is_in_message(phase: Phase) -> bool
+    ensures { λ r. ⌜ r ≡ isInMessage phase ⌝ }
 {
     match phase {
         Phase::Idle => false,
         Phase::AddressAwaited => false,
         Phase::Ignoring => true,
-        Phase::ControlAwaited => false,
-        Phase::OneByte(_) => false,
-        Phase::EndlessBytes(_) => false,
-        Phase::Reading => false,
-        Phase::ReadEnded => false,
-    }
-}
-
-// Past its address: written to, or read from.
-fn is_past(phase: Phase) -> bool
-    ensures { λ r. ⌜ r ≡ isPastPhase phase ⌝ }
-{
-    match phase {
-        Phase::Idle => false,
-        Phase::AddressAwaited => false,
-        Phase::Ignoring => false,
         Phase::ControlAwaited => true,
         Phase::OneByte(_) => true,
         Phase::EndlessBytes(_) => true,
@@ -69,51 +55,65 @@ fn is_past(phase: Phase) -> bool
     }
 }
 
-fn all_idle(chips: Chips) -> bool
-    ensures { λ r. ⌜ r ≡ every isIdle (recordsOf chips) ⌝ }
+// 1 where it is past its address, written to or read from.
+fn count_past(phase: Phase) -> u8
+    ensures { λ r. ⌜ r ≡ cond (isPastPhase phase) 1 0 ⌝ }
+    ensures { λ r. ⌜ r ≤ 1 ⌝ }
 {
-    is_idle(chips.chip0.phase)
-        & (is_idle(chips.chip1.phase) & (is_idle(chips.chip2.phase) & is_idle(chips.chip3.phase)))
+    match phase {
+        Phase::Idle => 0,
+        Phase::AddressAwaited => 0,
+        Phase::Ignoring => 0,
+        Phase::ControlAwaited => 1,
+        Phase::OneByte(_) => 1,
+        Phase::EndlessBytes(_) => 1,
+        Phase::Reading => 1,
+        Phase::ReadEnded => 1,
+    }
 }
 
-fn all_awaiting(chips: Chips) -> bool
-    ensures { λ r. ⌜ r ≡ every awaitsAddress (recordsOf chips) ⌝ }
+fn all_idle(phase0: Phase, phase1: Phase, phase2: Phase, phase3: Phase) -> bool
+    ensures { λ r. ⌜ r ≡ allOfFour isIdlePhase phase0 phase1 phase2 phase3 ⌝ }
 {
-    is_awaiting(chips.chip0.phase)
-        & (is_awaiting(chips.chip1.phase)
-            & (is_awaiting(chips.chip2.phase) & is_awaiting(chips.chip3.phase)))
+    is_idle(phase0) & (is_idle(phase1) & (is_idle(phase2) & is_idle(phase3)))
+}
+
+fn all_awaiting(phase0: Phase, phase1: Phase, phase2: Phase, phase3: Phase) -> bool
+    ensures { λ r. ⌜ r ≡ allOfFour isAwaitingPhase phase0 phase1 phase2 phase3 ⌝ }
+{
+    is_awaiting(phase0) & (is_awaiting(phase1) & (is_awaiting(phase2) & is_awaiting(phase3)))
 }
 
 // How many are past their address.
-fn how_many_past(chips: Chips) -> u8
-    ensures { λ r. ⌜ r ≡ howMany isPast (recordsOf chips) ⌝ }
+fn how_many_past(phase0: Phase, phase1: Phase, phase2: Phase, phase3: Phase) -> u8
+    ensures { λ r. ⌜ r ≡ manyOfFour isPastPhase phase0 phase1 phase2 phase3 ⌝ }
 {
-    is_past(chips.chip0.phase) as u8
-        + (is_past(chips.chip1.phase) as u8
-            + (is_past(chips.chip2.phase) as u8 + is_past(chips.chip3.phase) as u8))
-}
-
-// Ignoring the rest of a message, or past its address in one.
-fn is_in_message(phase: Phase) -> bool
-    ensures { λ r. ⌜ r ≡ isIgnoringPhase phase || isPastPhase phase ⌝ }
-{
-    is_ignoring(phase) | is_past(phase)
+    count_past(phase0) + (count_past(phase1) + (count_past(phase2) + count_past(phase3)))
 }
 
 // All ignoring but at most one past its address.
-fn one_past(chips: Chips) -> bool
-    ensures { λ r. ⌜ r ≡ onePast (recordsOf chips) ⌝ }
+fn one_past(phase0: Phase, phase1: Phase, phase2: Phase, phase3: Phase) -> bool
+    ensures { λ r. ⌜ r ≡ allOfFour isInMessage phase0 phase1 phase2 phase3
+        && leb (manyOfFour isPastPhase phase0 phase1 phase2 phase3) 1 ⌝ }
 {
-    let in_message = is_in_message(chips.chip0.phase)
-        & (is_in_message(chips.chip1.phase)
-            & (is_in_message(chips.chip2.phase) & is_in_message(chips.chip3.phase)));
-    in_message & (how_many_past(chips) <= 1)
+    let all_in_message = is_in_message(phase0)
+        & (is_in_message(phase1) & (is_in_message(phase2) & is_in_message(phase3)));
+    all_in_message & (how_many_past(phase0, phase1, phase2, phase3) <= 1)
 }
 
 fn phases_agree(chips: Chips) -> bool
     ensures { λ r. ⌜ r ≡ phasesAgree (recordsOf chips) ⌝ }
 {
-    all_idle(chips) | (all_awaiting(chips) | one_past(chips))
+    let chip0 = chips.chip0;
+    let chip1 = chips.chip1;
+    let chip2 = chips.chip2;
+    let chip3 = chips.chip3;
+    let phase0 = chip0.phase;
+    let phase1 = chip1.phase;
+    let phase2 = chip2.phase;
+    let phase3 = chip3.phase;
+    all_idle(phase0, phase1, phase2, phase3)
+        | (all_awaiting(phase0, phase1, phase2, phase3) | one_past(phase0, phase1, phase2, phase3))
 }
 
 fn pins_differ(chips: Chips) -> bool

@@ -1,0 +1,99 @@
+-- Steps through the code of a bus event, over plain variables.
+use mathlib.Core.Bool.{Bool, true, false, not, _&&_, _||_}
+use mathlib.Core.List.{List, [], _∷_, map}
+use mathlib.Core.Path.{_≡_, sym, ap, _∙_}
+use Prim.Native.Nat.{ℕ, zero, suc, _+_, _-_, _^_}
+use native.Mathlib.Nat.{add-zero}
+use borrow.Author.Tests.{eqb-false}
+use lib.Dec.{eqb, leb, ltb}
+use Rattle.registers.specs.Refusals.{refuse, _then_, isListedEvent}
+use Rattle.registers.proofs.Below.{and-true}
+use Rattle.registers.proofs.Refusals.{then-zero, refuse-none}
+use Rattle.engine.specs.declared.answer.Answer.{Answer}
+use Rattle.engine.specs.declared.answer.Answer.the-variants.{Refused, Nothing}
+use Rattle.engine.specs.Event.{eventOf}
+use Rattle.engine.specs.Step.{After, nothingStored, applied}
+use Rattle.bus.specs.Bus.{Device, Bus, bus, alone, deviceOf, every, isIdlePhase, isAwaitingPhase, isPastPhase, hasOtherPins, phasesAgree}
+use Rattle.bus.specs.Refusals.{isLong, devicesRefusalFor, devicesRefusal, isSensorReading, sentRefusal, busRefusal}
+use Rattle.bus.specs.Step.{misses, heardBy, deviceAfter, unanswered, orElse, answerOf, BusAfter, busAfter, busAccepted, unlessRefused, busStepOf}
+use Rattle.bus_step.specs.declared.Chips.{Chips}
+use Rattle.bus_step.specs.Four.{recordsOf, isInMessage, allOfFour, manyOfFour}
+
+-- ---- which chips can share a bus
+
+pub phases-told :
+    (c : Chips) (idle awaiting past : Bool)
+    → idle ≡ allOfFour isIdlePhase (c .chip0 .phase) (c .chip1 .phase) (c .chip2 .phase) (c .chip3 .phase)
+    → awaiting ≡ allOfFour isAwaitingPhase (c .chip0 .phase) (c .chip1 .phase) (c .chip2 .phase) (c .chip3 .phase)
+    → past ≡ allOfFour isInMessage (c .chip0 .phase) (c .chip1 .phase) (c .chip2 .phase) (c .chip3 .phase)
+    && leb (manyOfFour isPastPhase (c .chip0 .phase) (c .chip1 .phase) (c .chip2 .phase) (c .chip3 .phase)) 1
+    → idle || (awaiting || past) ≡ phasesAgree (recordsOf c)
+phases-told c idle awaiting past i w p = simp (i, w, p, and-true, add-zero)
+
+-- ---- one chip
+
+module _ (e k n : ℕ) (d : Device) (t : Bool) (told : t ≡ isSensorReading e) where
+  pub missed : t && hasOtherPins k d ≡ true → nothingStored Nothing (d .chip) (alone n d) ≡ heardBy e k n d
+  unfolding heardBy
+  missed h = let m : misses e k d ≡ true = ap (λ (x : Bool). x && hasOtherPins k d) (sym told) ∙ h in rw m
+
+  pub heard : (a : After) → t && hasOtherPins k d ≡ false → a ≡ applied (eventOf e) (alone n d) → a ≡ heardBy e k n d
+  unfolding heardBy
+  heard a h q = let m : misses e k d ≡ false = ap (λ (x : Bool). x && hasOtherPins k d) (sym told) ∙ h in q ∙ rw m
+
+-- ---- the four
+
+module _
+    (e k n : ℕ) (a b c d : Device) (xa xb xc xd : After)
+    (ea : xa ≡ heardBy e k n a) (eb : xb ≡ heardBy e k n b) (ec : xc ≡ heardBy e k n c) (ed : xd ≡ heardBy e k n d)
+  where
+    pub four-after : deviceOf (xa .state) ∷ deviceOf (xb .state) ∷ deviceOf (xc .state) ∷ deviceOf (xd .state) ∷ []
+        ≡ map (deviceAfter e k n) (a ∷ b ∷ c ∷ d ∷ [])
+    four-after = rw (ea, eb, ec, ed)
+
+    pub four-answer :
+        (r : Answer) → r ≡ orElse (xa .answer) (orElse (xb .answer) (orElse (xc .answer) (orElse (xd .answer) (unanswered (eventOf e)))))
+        → r ≡ answerOf e k n (a ∷ b ∷ c ∷ d ∷ [])
+    four-answer r told = told ∙ rw (ea, eb, ec, ed)
+
+-- ---- the step
+
+pub then-told : (r x y first later : ℕ) → r ≡ x then y → x ≡ first → y ≡ later → r ≡ first then later
+then-told r x y first later told e f = told ∙ rw (e, f)
+
+unless-refused :
+    (x r : ℕ) (a : BusAfter) (b : Bus) → r ≡ x → (r ≡ 0 → ⊥)
+    → busAfter (Refused r) (b .devices) (b .count) ≡ unlessRefused x a b
+unless-refused zero r a b e n = absurd (n e)
+unless-refused (suc x) r a b e n = ap (λ (y : ℕ). busAfter (Refused y) (b .devices) (b .count)) e
+
+pub room : (e k n : ℕ) → sentRefusal e k n ≡ 0 → n ≡ 2 ^ 64 - 1 → ⊥
+unfolding sentRefusal
+room e k n none =
+    let sent =
+    then-zero (refuse (not (isListedEvent e)) 3) (refuse (isSensorReading e && ltb 3 k) 13 then refuse (eqb n (2 ^ 64 - 1)) 4) none .1 in
+    eqb-false n (2 ^ 64 - 1) (refuse-none _ 3 (then-zero (refuse (isSensorReading e && ltb 3 k) 13) _ sent .1))
+
+module _
+    (e k n r : ℕ) (l0 l1 l2 l3 : Bool) (a b c d : Device)
+    (q0 : l0 ≡ isLong a) (q1 : l1 ≡ isLong b) (q2 : l2 ≡ isLong c) (q3 : l3 ≡ isLong d)
+    (told : r ≡ devicesRefusalFor (l0 && (l1 && (l2 && l3))) (a ∷ b ∷ c ∷ d ∷ []) then sentRefusal e k n)
+  where
+    refusal-told : r ≡ busRefusal e k (bus (a ∷ b ∷ c ∷ d ∷ []) n)
+    unfolding busRefusal devicesRefusal
+    refusal-told =
+        let long : l0 && (l1 && (l2 && l3)) ≡ every isLong (a ∷ b ∷ c ∷ d ∷ []) = simp (q0, q1, q2, q3, and-true) in
+        told ∙ ap (λ (t : Bool). devicesRefusalFor t (a ∷ b ∷ c ∷ d ∷ []) then sentRefusal e k n) long
+
+    pub step-refused : (r ≡ 0 → ⊥) → busAfter (Refused r) (a ∷ b ∷ c ∷ d ∷ []) n ≡ busStepOf e k (bus (a ∷ b ∷ c ∷ d ∷ []) n)
+    unfolding busStepOf
+    step-refused h =
+        let all = bus (a ∷ b ∷ c ∷ d ∷ []) n in
+        unless-refused (busRefusal e k all) r (busAccepted e k all) all refusal-told h
+
+    pub step-accepted :
+        (ds : List Device) (x : Answer) → r ≡ 0 → ds ≡ map (deviceAfter e k (n + 1)) (a ∷ b ∷ c ∷ d ∷ [])
+        → x ≡ answerOf e k (n + 1) (a ∷ b ∷ c ∷ d ∷ [])
+        → busAfter x ds (n + 1) ≡ busStepOf e k (bus (a ∷ b ∷ c ∷ d ∷ []) n)
+    unfolding busStepOf busAccepted
+    step-accepted ds x z q t = rw (sym refusal-told ∙ z, q, t)
