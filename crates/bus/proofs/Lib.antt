@@ -1,8 +1,11 @@
+pub mod Alone
 pub mod Answers
 pub mod Every
 pub mod Fits
+pub mod LastWriter
 pub mod Laws
 pub mod Phases
+pub mod Picks
 pub mod Reach
 pub mod Refusals
 pub mod Speaking

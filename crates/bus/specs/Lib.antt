@@ -1,7 +1,9 @@
 pub mod Answers
 pub mod Bus
+pub mod LastWriter
 pub mod Phases
 pub mod Reach
 pub mod Refusals
 pub mod Step
+pub mod Streams
 pub mod When
