@@ -1,5 +1,7 @@
 pub mod Alone
 pub mod Answers
+pub mod Apart
+pub mod Differing
 pub mod Every
 pub mod Fits
 pub mod LastWriter
@@ -9,4 +11,5 @@ pub mod Picks
 pub mod Reach
 pub mod Refusals
 pub mod Speaking
+pub mod Turns
 pub mod Wrong

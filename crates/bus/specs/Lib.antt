@@ -1,4 +1,5 @@
 pub mod Answers
+pub mod Apart
 pub mod Bus
 pub mod LastWriter
 pub mod Phases
