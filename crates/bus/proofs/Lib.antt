@@ -8,6 +8,7 @@ pub mod LastWriter
 pub mod Laws
 pub mod Phases
 pub mod Picks
+pub mod Plays
 pub mod Reach
 pub mod Refusals
 pub mod Speaking

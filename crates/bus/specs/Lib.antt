@@ -3,6 +3,7 @@ pub mod Apart
 pub mod Bus
 pub mod LastWriter
 pub mod Phases
+pub mod Plays
 pub mod Reach
 pub mod Refusals
 pub mod Step
