@@ -16,8 +16,9 @@ use Rattle.chip.specs.Plays.{played}
 use Rattle.chip.proofs.Laws.{run-steps, last-writer}
 use Rattle.bus.specs.Bus.{Bus}
 use Rattle.bus.specs.LastWriter.{AcceptedAt, PlaceOnBus}
-use Rattle.bus.specs.Streams.{Sent, sent, refusalAt, stepped, busPlayed, acceptedOf, unlessRefusal, isForOthers, heardAs, heardOf, isOn, chipOn}
-use Rattle.bus.proofs.Alone.{counts-stepped, refused-stepped, own-way, own-way-accepted}
+use Rattle.bus.specs.Streams.{Sent, sent, refusalAt, stepped, busPlayed, acceptedOf, unlessRefusal, isForOthers, heardAs, heardOf, deviceWith, isOn, chipOn}
+use Rattle.bus.proofs.Alone.{counts-stepped, refused-stepped, stays-on, picked-step, own-way, own-way-accepted}
+use Rattle.bus.proofs.Picks.{OnBus, by-pins, with-pins}
 
 -- ---- a chip alone that refuses nothing
 
@@ -58,9 +59,9 @@ sent-at p (x ∷ xs) zero l = byte-as-sent p x l
 sent-at p (x ∷ xs) (suc i) l = sent-at p xs i l
 
 -- every accepted event is one of the stream
-pub accepted-at : (xs : List Sent) (b : Bus) (i : ℕ) → i < length (acceptedOf xs b) → AcceptedAt xs b i
-accepted-at [] b i l = absurd (not-suc-le-zero l)
-accepted-at (x ∷ xs) b i l = go (refusalAt x b) refl i l (accepted-at xs (stepped x b))
+pub accepted-at : (p : ℕ) (xs : List Sent) (b : Bus) → isOn p (b .devices) ≡ true → (i : ℕ) → i < length (acceptedOf xs b) → AcceptedAt p xs b i
+accepted-at p [] b on i l = absurd (not-suc-le-zero l)
+accepted-at p (x ∷ xs) b on i l = go (refusalAt x b) refl i l (accepted-at p xs (stepped x b) (stays-on (OnBus p) (deviceWith p) (by-pins p) x b on))
   where
     rest : List Sent
     rest = acceptedOf xs (stepped x b)
@@ -68,25 +69,38 @@ accepted-at (x ∷ xs) b i l = go (refusalAt x b) refl i l (accepted-at xs (step
     among : (r i : ℕ) → refusalAt x b ≡ r → getD (unlessRefusal r x rest) i (sent 0 0) ≡ getD (acceptedOf (x ∷ xs) b) i (sent 0 0)
     among r i h = ap (λ (n : ℕ). getD (unlessRefusal n x rest) i (sent 0 0)) (sym h)
 
+    -- the chip that hears the accepted events, when the i-th of them comes
+    standing : (r i : ℕ) → refusalAt x b ≡ r → before (heardOf p (x ∷ xs) b) i (chipOn p b) ≡ before (map (heardAs p) (unlessRefusal r x rest)) i (chipOn p b)
+    standing r i h = ap (λ (n : ℕ). before (map (heardAs p) (unlessRefusal n x rest)) i (chipOn p b)) h
+
     later :
         (i j : ℕ) → getD rest j (sent 0 0) ≡ getD (acceptedOf (x ∷ xs) b) i (sent 0 0) → stepped x b .count + j ≡ b .count + i
-        → AcceptedAt xs (stepped x b) j → AcceptedAt (x ∷ xs) b i
-    later i j e c a =
+        → before (heardOf p (x ∷ xs) b) i (chipOn p b) ≡ before (map (heardAs p) rest) j (chipOn p (stepped x b))
+        → AcceptedAt p xs (stepped x b) j → AcceptedAt p (x ∷ xs) b i
+    later i j e c u a =
         record {
           place = suc (a .place);
           in-stream = suc-le-suc (a .in-stream);
           same-event = a .same-event ∙ e;
           is-accepted = a .is-accepted;
           count = a .count ∙ c;
+          upon = u ∙ a .upon;
         }
 
     go :
-        (r : ℕ) → refusalAt x b ≡ r → (i : ℕ) → i < length (unlessRefusal r x rest) → ((j : ℕ) → j < length rest → AcceptedAt xs (stepped x b) j)
-        → AcceptedAt (x ∷ xs) b i
-    go zero h zero l at = record { place = zero; in-stream = omega arith; same-event = among zero zero h; is-accepted = h; count = omega arith }
-    go zero h (suc i) l at = later (suc i) i (among zero (suc i) h) (omega (arith, counts-stepped x b h)) (at i (le-of-suc-le-suc l))
+        (r : ℕ) → refusalAt x b ≡ r → (i : ℕ) → i < length (unlessRefusal r x rest) → ((j : ℕ) → j < length rest → AcceptedAt p xs (stepped x b) j)
+        → AcceptedAt p (x ∷ xs) b i
+    go zero h zero l at =
+        record { place = zero; in-stream = omega arith; same-event = among zero zero h; is-accepted = h; count = omega arith; upon = standing zero zero h }
+    go zero h (suc i) l at =
+        later (suc i) i (among zero (suc i) h) (omega (arith, counts-stepped x b h))
+        (standing zero (suc i) h
+        ∙ ap (before (map (heardAs p) rest) i) (picked-step (OnBus p) (deviceWith p) (by-pins p) x b on h p (with-pins p (b .devices) on)))
+        (at i (le-of-suc-le-suc l))
     go (suc r) h i l at =
-        later i i (among (suc r) i h) (ap (λ (a : Bus). a .count + i) (refused-stepped x b r h)) (at i l)
+        later i i (among (suc r) i h) (ap (λ (a : Bus). a .count + i) (refused-stepped x b r h))
+        (standing (suc r) i h ∙ ap (λ (a : Bus). before (map (heardAs p) rest) i (chipOn p a)) (sym (refused-stepped x b r h)))
+        (at i l)
 
 -- demand 2 on a bus: after any stream, for pins that a device has and every place
 pub last-writer-on-bus : (p : ℕ) (xs : List Sent) (b : Bus) → isOn p (b .devices) ≡ true → (k : ℕ) → PlaceOnBus p xs b k
@@ -106,5 +120,5 @@ last-writer-on-bus p xs b on k =
         (record {
           written = w;
           as-sent = sent-at p (acceptedOf xs b) (w .last .event) (w .last .is-stored .is-byte);
-          in-stream = accepted-at xs b (w .last .event) (w .last .is-done);
+          in-stream = accepted-at p xs b on (w .last .event) (w .last .is-done);
         })
