@@ -9,7 +9,7 @@ use registers::Chip;
 
 mod answer;
 mod device;
-mod refusal;
+pub mod refusal;
 mod sharing;
 
 // The four records, in the order of their memories.
