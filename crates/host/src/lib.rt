@@ -11,6 +11,8 @@ use record_words::read_record;
 use record_words::write_record;
 use registers::Chip;
 
+mod bus_call;
+
 // Why words that stand for no record are refused: 1 comes first.
 fn no_record(memory_len: usize, writers_len: usize) -> u64
     ensures { λ r. ⌜ r ≡ noRecordFor «memory_len» «writers_len» ⌝ }
