@@ -48,7 +48,7 @@ read-all : (t : Bool) (c d : Chips) → cond t (Records c) NoRecord ≡ Records 
 read-all true c d e = (refl, cc)
 read-all false c d e = let z : _≡_ {A = ℕ} 0 1 = cc in absurd (omega arith)
 
-both : (a b : Bool) → a && b ≡ true → (a ≡ true) × (b ≡ true)
+pub both : (a b : Bool) → a && b ≡ true → (a ≡ true) × (b ≡ true)
 both true b h = (refl, h)
 both false b h = absurd (false-true h)
 

@@ -1,1 +1,3 @@
 pub mod CodeWays
+pub mod Numbers
+pub mod Laws

@@ -24,7 +24,8 @@ use Rattle.chip.proofs.Laws.{refused, refusal-at-most, run-steps, run-tallies}
 use Rattle.record_words.specs.Words.{phaseNumber, bit, standsFor, wordsOf}
 use Rattle.host.specs.Calls.{noRecord, Stepped, Ran, ran, runCall}
 use Rattle.host.specs.Playing.{Buffers, buffers, stepOn, runOn, CommandAwaited, callsGiving, CountedByCalls}
-use Rattle.host.proofs.Steps.{NoRefusal, command-numbers, same-number}
+use Rattle.bus_host.proofs.Numbers.{NoRefusal, command-numbers}
+use Rattle.host.proofs.Steps.{same-number}
 use Rattle.host.proofs.Steps.{buffersOf, Stands, call-steps, step-answers, stays-standing, Accepted, call-runs}
 use Rattle.host.proofs.Steps.{no-record-ran}
 

@@ -30,7 +30,7 @@ use Rattle.host.specs.Compiling.{Compiled, compiled, compileCall}
 use Rattle.host.specs.Playing.{Buffers, stepOn, CommandAwaited, AnsweredAs, CountedByCalls, PlayedByCalls, DrawnByCalls, LastWriterByCalls}
 use Rattle.host.proofs.Refusals.{one-or-two, never-none, entry-of-none, entry-of-chip, refused-at-entry, refusal-of-chip}
 use Rattle.record_words.proofs.Laws.{words-chip-words, stands-allowed}
-use Rattle.host.proofs.Steps.{command-numbers}
+use Rattle.bus_host.proofs.Numbers.{command-numbers}
 use Rattle.host.proofs.Steps.{buffersOf, as-buffers, as-stands}
 use Rattle.host.proofs.Steps.{no-record-stepped}
 use Rattle.host.proofs.Commands.{command-awaited, awaits-command, step-command-number, counted-stands, counted-none}

@@ -27,7 +27,8 @@ use Rattle.drawing.specs.Plain.{pictureOf, plainReading}
 use Rattle.record_words.specs.Words.{bit, standsFor, wordsOf}
 use Rattle.host.specs.Calls.{noRecord, Stepped, Ran, ran, afterRun, runFor, runCall}
 use Rattle.host.specs.Playing.{Buffers, buffers, stepOn, runOn, uponEvent, afterEvents, pictureIn, CommandAwaited, PlayedByCalls, StoredByCall, LastWriterByCalls}
-use Rattle.host.proofs.Steps.{no-refusal-number, acknowledged-number, number-acknowledged}
+use Rattle.bus_host.proofs.Numbers.{no-refusal-number}
+use Rattle.host.proofs.Steps.{acknowledged-number, number-acknowledged}
 use Rattle.host.proofs.Steps.{buffersOf, Stands, call-steps, step-answers, Accepted, upon-event, after-events, call-runs}
 use Rattle.host.proofs.Steps.{no-record-ran}
 use Rattle.host.proofs.Commands.{command-awaited, awaits-command}

@@ -26,18 +26,11 @@ use Rattle.chip.proofs.Laws.{stays-fit}
 use Rattle.record_words.specs.Words.{STATUS, standsFor, chipOf, wordsOf}
 use Rattle.record_words.proofs.Laws.{words-chip-words, chip-words-chip, allowed-stands}
 use Rattle.record_words.proofs.Stands.{stands-at}
+use Rattle.bus_host.proofs.Numbers.{NoRefusal}
 use Rattle.host.specs.Calls.{afterStep, stepCall, runFor, runCall, noRecord, stepped, ran}
 use Rattle.host.specs.Playing.{Buffers, buffers, stepOn, runOn, uponEvent, afterEvents}
 
 -- ---- what an accepted event gives: an answer that is no refusal, and a status that is a byte
-
-abbrev pub NoRefusal : Answer → Type 0
-NoRefusal (Refused k) = ⊥
-NoRefusal Nothing = Unit
-NoRefusal Acknowledged = Unit
-NoRefusal NotAcknowledged = Unit
-NoRefusal (Command a) = Unit
-NoRefusal (Read b) = Unit
 
 pub record Sound (a : After) : Type 0 where
   pub answered : NoRefusal (a .answer)
@@ -119,11 +112,6 @@ step-sound : (e : ℕ) (s : State) → refusalOf e s ≡ 0 → s .chip .status �
 unfolding stepOf accepted
 step-sound e s r h = rw r (applied-sound (eventOf e) (counted s) (sensor-byte e) h)
 
-pub command-numbers : (a : CommandAnswer) → (259 ≤ commandNumber a) × (commandNumber a ≤ 261)
-command-numbers Taken = (omega arith, omega arith)
-command-numbers Unknown = (omega arith, omega arith)
-command-numbers OutOfRange = (omega arith, omega arith)
-
 pub same-number : (a b : CommandAnswer) → commandNumber a ≡ commandNumber b → a ≡ b
 same-number Taken Taken e = refl
 same-number Taken Unknown e = absurd (omega (arith, e))
@@ -134,15 +122,6 @@ same-number Unknown OutOfRange e = absurd (omega (arith, e))
 same-number OutOfRange Taken e = absurd (omega (arith, e))
 same-number OutOfRange Unknown e = absurd (omega (arith, e))
 same-number OutOfRange OutOfRange e = refl
-
--- the numbers of such answers
-pub no-refusal-number : (a : Answer) → NoRefusal a → 256 ≤ numberOf a
-no-refusal-number (Refused k) n = absurd n
-no-refusal-number Nothing n = omega arith
-no-refusal-number Acknowledged n = omega arith
-no-refusal-number NotAcknowledged n = omega arith
-no-refusal-number (Command a) n = omega (arith, command-numbers a .0)
-no-refusal-number (Read b) n = omega arith
 
 -- an acknowledge that is not that of a command has 257, and an answer with 257 is an acknowledge
 pub acknowledged-number : (a : Answer) → isAcknowledged a ≡ true → ((x : CommandAnswer) → a ≡ Command x → ⊥) → numberOf a ≡ 257

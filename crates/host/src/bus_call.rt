@@ -23,10 +23,16 @@ pub extern "C" fn pcf8820_bus_step(
     event: u16,
     pins: u64,
 ) -> u64
-    ensures { λ r. ⌜ called r (fourLent (now (record0 .exit)) (now (memory0 .exit)) (now (writers0 .exit)) (now (record1 .exit)) (now (memory1 .exit)) (now (writers1 .exit))
-        (now (record2 .exit)) (now (memory2 .exit)) (now (writers2 .exit)) (now (record3 .exit)) (now (memory3 .exit)) (now (writers3 .exit))) (now (count .exit))
-        ≡ busCall event pins (fourLent (now (record0 .entry)) (now (memory0 .entry)) (now (writers0 .entry)) (now (record1 .entry)) (now (memory1 .entry)) (now (writers1 .entry))
-        (now (record2 .entry)) (now (memory2 .entry)) (now (writers2 .entry)) (now (record3 .entry)) (now (memory3 .entry)) (now (writers3 .entry))) (now (count .entry)) ⌝ }
+    ensures { λ r. ⌜ called r (fourLent
+        (now (record0 .exit)) (now (memory0 .exit)) (now (writers0 .exit))
+        (now (record1 .exit)) (now (memory1 .exit)) (now (writers1 .exit))
+        (now (record2 .exit)) (now (memory2 .exit)) (now (writers2 .exit))
+        (now (record3 .exit)) (now (memory3 .exit)) (now (writers3 .exit))) (now (count .exit))
+        ≡ busCall event pins (fourLent
+        (now (record0 .entry)) (now (memory0 .entry)) (now (writers0 .entry))
+        (now (record1 .entry)) (now (memory1 .entry)) (now (writers1 .entry))
+        (now (record2 .entry)) (now (memory2 .entry)) (now (writers2 .entry))
+        (now (record3 .entry)) (now (memory3 .entry)) (now (writers3 .entry))) (now (count .entry)) ⌝ }
 {
     let found = bus_host::read_four(record0, record1, record2, record3);
     let FourRead::Records(chips) = found else {
@@ -41,11 +47,12 @@ pub extern "C" fn pcf8820_bus_step(
             writers3.len(),
         );
     };
+    let before = *count;
     let stepped = bus_step::step(
         event,
         pins,
         chips,
-        *count,
+        before,
         memory0,
         writers0,
         memory1,
@@ -56,7 +63,8 @@ pub extern "C" fn pcf8820_bus_step(
         writers3,
     );
     let answer = stepped.answer;
-    *count = stepped.count;
+    let after = stepped.count;
+    *count = after;
     bus_host::write_four(stepped.chips, record0, record1, record2, record3);
     answer.number()
 }

@@ -29,8 +29,9 @@ enum-told-2 c = search needs
 returns-2 : tie.Need-returns-2
 unfolding fourRead
 returns-2 c =
+    let found0 = c .before .before .before .before in
     simp (
-      record-read _ _ (c .before .before .before .before .before .before .read-record .ensures) _ (c .before .before .before .before .found0 .given .1) .0,
+      record-read _ _ (found0 .before .before .read-record .ensures) _ (found0 .found0 .given .1) .0,
       none-read _ _ (c .before .before .read-record2 .ensures) (c .enum-told2 .given .1),
     )
 
@@ -46,9 +47,11 @@ enum-told-3 c = search needs
 returns-3 : tie.Need-returns-3
 unfolding fourRead
 returns-3 c =
+    let found1 = c .before .before .before .before in
+    let found0 = found1 .before .before .before .before in
     simp (
-      record-read _ _ (c .before .before .before .before .before .before .before .before .before .before .read-record .ensures) _ (c .before .before .before .before .before .before .before .before .found0 .given .1) .0,
-      record-read _ _ (c .before .before .before .before .before .before .read-record2 .ensures) _ (c .before .before .before .before .found1 .given .1) .0,
+      record-read _ _ (found0 .before .before .read-record .ensures) _ (found0 .found0 .given .1) .0,
+      record-read _ _ (found1 .before .before .read-record2 .ensures) _ (found1 .found1 .given .1) .0,
       none-read _ _ (c .before .before .read-record3 .ensures) (c .enum-told3 .given .1),
     )
 
@@ -64,20 +67,27 @@ enum-told-4 c = search needs
 returns-4 : tie.Need-returns-4
 unfolding fourRead
 returns-4 c =
+    let found2 = c .before .before .before .before in
+    let found1 = found2 .before .before .before .before in
+    let found0 = found1 .before .before .before .before in
     simp (
-      record-read _ _ (c .before .before .before .before .before .before .before .before .before .before .before .before .before .before .read-record .ensures) _ (c .before .before .before .before .before .before .before .before .before .before .before .before .found0 .given .1) .0,
-      record-read _ _ (c .before .before .before .before .before .before .before .before .before .before .read-record2 .ensures) _ (c .before .before .before .before .before .before .before .before .found1 .given .1) .0,
-      record-read _ _ (c .before .before .before .before .before .before .read-record3 .ensures) _ (c .before .before .before .before .found2 .given .1) .0,
+      record-read _ _ (found0 .before .before .read-record .ensures) _ (found0 .found0 .given .1) .0,
+      record-read _ _ (found1 .before .before .read-record2 .ensures) _ (found1 .found1 .given .1) .0,
+      record-read _ _ (found2 .before .before .read-record3 .ensures) _ (found2 .found2 .given .1) .0,
       none-read _ _ (c .before .before .read-record4 .ensures) (c .enum-told4 .given .1),
     )
 
 returns-5 : tie.Need-returns-5
 returns-5 c =
+    let found3 = c .before in
+    let found2 = found3 .before .before .before .before in
+    let found1 = found2 .before .before .before .before in
+    let found0 = found1 .before .before .before .before in
     four-read _ _ _ _ _ _ _ _
-    (record-read _ _ (c .before .before .before .before .before .before .before .before .before .before .before .before .before .before .before .read-record .ensures) _ (c .before .before .before .before .before .before .before .before .before .before .before .before .before .found0 .given .1))
-    (record-read _ _ (c .before .before .before .before .before .before .before .before .before .before .before .read-record2 .ensures) _ (c .before .before .before .before .before .before .before .before .before .found1 .given .1))
-    (record-read _ _ (c .before .before .before .before .before .before .before .read-record3 .ensures) _ (c .before .before .before .before .before .found2 .given .1))
-    (record-read _ _ (c .before .before .before .read-record4 .ensures) _ (c .before .found3 .given .1))
+    (record-read _ _ (found0 .before .before .read-record .ensures) _ (found0 .found0 .given .1))
+    (record-read _ _ (found1 .before .before .read-record2 .ensures) _ (found1 .found1 .given .1))
+    (record-read _ _ (found2 .before .before .read-record3 .ensures) _ (found2 .found2 .given .1))
+    (record-read _ _ (found3 .before .before .read-record4 .ensures) _ (found3 .found3 .given .1))
 
 pub read-four-spec : {M : Type 1} → statement M
 read-four-spec =

@@ -30,8 +30,10 @@ returns : tie.Need-returns
 returns c =
     let written3 = c .before .before in
     let written2 = written3 .before .before .before .before in
-    let written1 = written2 .before .before .before .before in
-    (written1 .before .before .before .before .write-record .ensures, (written1 .write-record2 .ensures, (written2 .write-record3 .ensures, written3 .write-record4 .ensures)))
+    let written1 = written2 .before .before .before .before in (
+      written1 .before .before .before .before .write-record .ensures,
+      (written1 .write-record2 .ensures, (written2 .write-record3 .ensures, written3 .write-record4 .ensures)),
+    )
 
 pub write-four-spec : {M : Type 1} → statement M
 write-four-spec =

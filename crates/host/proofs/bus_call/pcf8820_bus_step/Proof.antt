@@ -79,11 +79,12 @@ same-length-16 c = search needs
 
 returns-2 : tie.Need-returns-2
 returns-2 c =
-    let written = c .before .before .before .before .before .before .before .before .before .write-four .ensures in
-    let stepped = c .before .before .before .before .before .before .before .before .before .before .before .before .before .before .before .before .before .before .before .before .before .before .before .before .before .before .before .before .before .before in
+    let written = c .before .before .before .before .before .before .before .before .before in
+    let stepped = written .before .before .before .before .before .before .before .before .before .before .before .before .before .before .before .before .before .before .before .before .before in
     let found = stepped .before .before .before .before .before .before .before .before .before .before .before in
-    call-done _ _ _ _ _ _ _ _ _ _ _ _ _ _ _ _ (found .before .before .read-four .ensures) _ (stepped .step .result .chips) _ _ _ _ _ _ _ _ _ _ _ _ _ _ _ (found .found .given .1) (stepped .step .ensures)
-    (written .0) (written .1 .0) (written .1 .1 .0) (written .1 .1 .1) (c .number .ensures)
+    call-done _ _ _ _ _ _ _ _ _ _ _ _ _ _ _ _ (found .before .before .read-four .ensures) _ (stepped .step .result .chips) _ _ _ _ _ _ _ _ _ _ _ _ _ _ _
+    (found .found .given .1) (stepped .step .ensures) (written .write-four .ensures .0) (written .write-four .ensures .1 .0)
+    (written .write-four .ensures .1 .1 .0) (written .write-four .ensures .1 .1 .1) (c .number .ensures)
 
 pub pcf8820-bus-step-spec : {M : Type 1} → statement M
 pcf8820-bus-step-spec =
