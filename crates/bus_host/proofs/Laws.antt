@@ -9,33 +9,13 @@ use lib.Dec.{eqb, ltb}
 use Rattle.registers.specs.Refusals.{refuse, _then_, isListedEvent}
 use Rattle.engine.specs.declared.answer.Answer.{Answer}
 use Rattle.engine.specs.Event.{numberOf}
-use Rattle.bus.specs.Bus.{bus, every}
-use Rattle.bus.specs.Refusals.{isLong, isAllowed, canShare, devicesRefusal, isSensorReading, sentRefusal, busRefusal}
+use Rattle.bus.specs.Bus.{bus}
+use Rattle.bus.specs.Refusals.{devicesRefusal, isSensorReading, sentRefusal, busRefusal}
 use Rattle.bus.specs.Step.{answerOf, busAccepted, busStepOf}
-use Rattle.record_words.proofs.Laws.{words-chip-words, stands-allowed}
-use Rattle.bus_host.specs.Buffers.{Lent, deviceIn, lentBy, hasLengths, hasRecord, everyLent}
-use Rattle.bus_host.specs.BusCall.{Called, called, noRecordFor, afterBusStep, busCall, lentRefusal, busCallRefusal}
-use Rattle.bus_host.proofs.CodeWays.{both}
+use Rattle.bus_host.specs.Buffers.{Lent, deviceIn, hasLengths, hasRecord, everyLent}
+use Rattle.bus_host.specs.BusCall.{Called, called, noRecordFor, afterBusStep, busCall, pinsWordsDiffer, phaseWordsAgree, lentRefusal, busCallRefusal}
+use Rattle.bus_host.proofs.Devices.{long-in, allowed-in, share-in, lent-back}
 use Rattle.bus_host.proofs.Numbers.{NoRefusal, no-refusal-number, same-answer, bus-answers}
-
--- ---- what is lent, as devices
-
-long-in : (ls : List Lent) → every isLong (map deviceIn ls) ≡ everyLent hasLengths ls
-long-in [] = refl
-long-in (l ∷ ls) = ap (λ (t : Bool). hasLengths l && t) (long-in ls)
-
-allowed-in : (ls : List Lent) → everyLent hasRecord ls ≡ true → every isAllowed (map deviceIn ls) ≡ true
-allowed-in [] h = refl
-allowed-in (l ∷ ls) h =
-    let first = both (hasRecord l) (everyLent hasRecord ls) h in
-    rw (stands-allowed (l .words) (first .0)) (allowed-in ls (first .1))
-
--- words that stand for records, written anew, are the same words
-lent-back : (ls : List Lent) → everyLent hasRecord ls ≡ true → map lentBy (map deviceIn ls) ≡ ls
-lent-back [] h = refl
-lent-back (l ∷ ls) h =
-    let first = both (hasRecord l) (everyLent hasRecord ls) h in
-    rw (words-chip-words (l .words) (first .0), lent-back ls (first .1))
 
 -- ---- refusals
 
@@ -62,7 +42,7 @@ never-none false q = omega arith
 module _ (e k : ℕ) (ls : List Lent) (n : ℕ) where
   refusal-in : everyLent hasRecord ls ≡ true → busRefusal e k (bus (map deviceIn ls) n) ≡ busCallRefusal e k ls n
   unfolding busRefusal devicesRefusal
-  refusal-in h = rw (long-in ls, allowed-in ls h, h)
+  refusal-in h = rw (long-in ls h, allowed-in ls h, share-in ls h)
 
   refused-unread : everyLent hasRecord ls ≡ false → busCallRefusal e k ls n ≡ noRecordFor (everyLent hasLengths ls)
   refused-unread h = go (everyLent hasLengths ls) refl
@@ -79,7 +59,7 @@ module _ (e k : ℕ) (ls : List Lent) (n : ℕ) where
   pub refusal-small : busCallRefusal e k ls n ≤ 13
   refusal-small =
       then-small (lentRefusal ls) (sentRefusal e k n)
-      (devices-small (not (everyLent hasLengths ls)) (not (everyLent hasRecord ls)) (not (canShare (map deviceIn ls)))) sent-small
+      (devices-small (not (everyLent hasLengths ls)) (not (everyLent hasRecord ls)) (not (pinsWordsDiffer ls && phaseWordsAgree ls))) sent-small
 
   -- a refused call changes none of the buffers, nor the count
   pub bus-refused : (r : ℕ) → busCallRefusal e k ls n ≡ suc r → busCall e k ls n ≡ called (suc r) ls n

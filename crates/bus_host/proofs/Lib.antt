@@ -1,3 +1,4 @@
 pub mod CodeWays
+pub mod Devices
 pub mod Numbers
 pub mod Laws

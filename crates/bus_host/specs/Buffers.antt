@@ -1,7 +1,7 @@
 -- What a host in C lends for each chip of its bus, and four records read at once.
 use mathlib.Core.Bool.{Bool, true, cond, _&&_}
 use mathlib.Core.List.{List, [], _∷_}
-use Prim.Native.Nat.{ℕ}
+use Prim.Native.Nat.{ℕ, _+_}
 use lib.Dec.{eqb}
 use lib.ListN.{length}
 use Rattle.registers.specs.State.{places}
@@ -42,6 +42,10 @@ hasRecord l = standsFor (l .words)
 abbrev pub everyLent : (Lent → Bool) → List Lent → Bool
 everyLent f [] = true
 everyLent f (l ∷ ls) = f l && everyLent f ls
+
+abbrev pub howManyLent : (Lent → Bool) → List Lent → ℕ
+howManyLent f [] = 0
+howManyLent f (l ∷ ls) = cond (f l) 1 0 + howManyLent f ls
 
 -- ---- four records
 

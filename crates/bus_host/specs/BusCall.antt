@@ -1,13 +1,16 @@
 -- The call of a host in C for an event of a bus: what it gives back, and how it leaves the buffers and the count. Every input has its outcome.
-use mathlib.Core.Bool.{Bool, cond, not}
-use mathlib.Core.List.{List, map}
+use mathlib.Core.Bool.{Bool, true, cond, not, _&&_, _||_}
+use mathlib.Core.List.{List, [], _∷_, map}
 use Prim.Native.Nat.{ℕ}
+use lib.Dec.{eqb, leb, ltb}
+use lib.ListN.{getD}
 use Rattle.registers.specs.Refusals.{refuse, _then_}
 use Rattle.engine.specs.Event.{numberOf}
 use Rattle.bus.specs.Bus.{bus}
-use Rattle.bus.specs.Refusals.{canShare, sentRefusal}
+use Rattle.bus.specs.Refusals.{sentRefusal}
 use Rattle.bus.specs.Step.{BusAfter, busStepOf}
-use Rattle.bus_host.specs.Buffers.{Lent, deviceIn, lentBy, hasLengths, hasRecord, everyLent}
+use Rattle.bus_host.specs.Buffers.{Lent, deviceIn, lentBy, hasLengths, hasRecord, everyLent, howManyLent}
+use Rattle.record_words.specs.Words.{PINS, PHASE}
 
 -- the number given back, the buffers of each chip, and the event count
 pub record Called : Type 0 where
@@ -30,9 +33,31 @@ unfoldable pub busCall : ℕ → ℕ → List Lent → ℕ → Called
 busCall e k ls n =
     cond (everyLent hasRecord ls) (afterBusStep (busStepOf e k (bus (map deviceIn ls) n))) (called (noRecordFor (everyLent hasLengths ls)) ls n)
 
--- exactly when a call is refused, read off what the host lends: 1, 2, 12, 3, 13, 4 in this order; 0 is none
-abbrev pub lentRefusal : List Lent → ℕ
-lentRefusal ls = refuse (not (everyLent hasLengths ls)) 1 then refuse (not (everyLent hasRecord ls)) 2 then refuse (not (canShare (map deviceIn ls))) 12
+-- ---- exactly when a call is refused, read off what the host lends
 
+-- pins that differ, as words
+abbrev pub pinsWord : Lent → ℕ
+pinsWord l = getD (l .words) PINS 0
+
+abbrev pub pinsWordsDiffer : List Lent → Bool
+pinsWordsDiffer [] = true
+pinsWordsDiffer (l ∷ ls) = everyLent (λ (o : Lent). not (eqb (pinsWord o) (pinsWord l))) ls && pinsWordsDiffer ls
+
+-- phases that stand together, as words: all 0, all 1, or all 2 and more, of which at most one is above 2
+abbrev pub phaseWord : Lent → ℕ
+phaseWord l = getD (l .words) PHASE 0
+
+abbrev pub phaseWordsAgree : List Lent → Bool
+phaseWordsAgree ls =
+    everyLent (λ (l : Lent). eqb (phaseWord l) 0) ls
+    || (everyLent (λ (l : Lent). eqb (phaseWord l) 1) ls
+    || (everyLent (λ (l : Lent). leb 2 (phaseWord l)) ls && leb (howManyLent (λ (l : Lent). ltb 2 (phaseWord l)) ls) 1))
+
+-- 1: a memory of another length; 2: words that stand for no record; 12: chips that can't share a bus; 0 is none
+abbrev pub lentRefusal : List Lent → ℕ
+lentRefusal ls =
+    refuse (not (everyLent hasLengths ls)) 1 then refuse (not (everyLent hasRecord ls)) 2 then refuse (not (pinsWordsDiffer ls && phaseWordsAgree ls)) 12
+
+-- then 3, 13 and 4, of the event
 abbrev pub busCallRefusal : ℕ → ℕ → List Lent → ℕ → ℕ
 busCallRefusal e k ls n = lentRefusal ls then sentRefusal e k n
