@@ -1,21 +1,25 @@
 -- The host's call for a bus is refused exactly when the documents say, and then changes no buffer and not the count; its number tells the bus's answer.
 use mathlib.Core.Bool.{Bool, true, false, not, _&&_}
-use mathlib.Core.List.{List, [], _∷_, map}
+use mathlib.Core.List.{List, map}
 use mathlib.Core.Logic.{_↔_}
 use mathlib.Core.Path.{_≡_, refl, sym, ap, _∙_}
-use Prim.Native.Nat.{ℕ, zero, suc, _+_, _-_, _^_, _≤_, _<_}
+use Prim.Native.Nat.{ℕ, zero, suc, _-_, _^_, _≤_, _<_}
 use native.Mathlib.Omega.{arith}
+use borrow.Author.Tests.{ne-eqb, lt-leb}
 use lib.Dec.{eqb, ltb}
 use Rattle.registers.specs.Refusals.{refuse, _then_, isListedEvent}
+use Rattle.registers.proofs.Below.{false-true}
 use Rattle.engine.specs.declared.answer.Answer.{Answer}
-use Rattle.engine.specs.Event.{numberOf}
-use Rattle.bus.specs.Bus.{bus}
+use Rattle.engine.specs.Event.{numberOf, isAcknowledged}
+use Rattle.bus.specs.Answers.{Acknowledges}
+use Rattle.bus.specs.Bus.{Bus, bus, Somewhere}
 use Rattle.bus.specs.Refusals.{devicesRefusal, isSensorReading, sentRefusal, busRefusal}
-use Rattle.bus.specs.Step.{answerOf, busAccepted, busStepOf}
+use Rattle.bus.specs.Step.{busStepOf}
+use Rattle.bus.proofs.Laws as by-bus
 use Rattle.bus_host.specs.Buffers.{Lent, deviceIn, hasLengths, hasRecord, everyLent}
-use Rattle.bus_host.specs.BusCall.{Called, called, noRecordFor, afterBusStep, busCall, pinsWordsDiffer, phaseWordsAgree, lentRefusal, busCallRefusal}
+use Rattle.bus_host.specs.BusCall.{Called, called, noRecordFor, afterBusStep, busCall, pinsWordsDiffer, phaseWordsAgree, lentRefusal, busCallRefusal, tellsAcknowledge}
 use Rattle.bus_host.proofs.Devices.{long-in, allowed-in, share-in, lent-back}
-use Rattle.bus_host.proofs.Numbers.{NoRefusal, no-refusal-number, same-answer, bus-answers}
+use Rattle.bus_host.proofs.Numbers.{NoRefusal, no-refusal-number, same-answer, bus-answers, acknowledge-told}
 
 -- ---- refusals
 
@@ -34,6 +38,9 @@ event-small false false false = omega arith
 then-small : (a b : ℕ) → a ≤ 13 → b ≤ 13 → (a then b) ≤ 13
 then-small zero b ha hb = hb
 then-small (suc a) b ha hb = ha
+
+refusal-tells-none : (r : ℕ) → r ≤ 13 → tellsAcknowledge r ≡ false
+refusal-tells-none r h = simp (ne-eqb r 257 (λ q. omega arith), lt-leb 259 r (omega arith))
 
 never-none : (t : Bool) → noRecordFor t ≡ 0 → ⊥
 never-none true q = omega arith
@@ -70,39 +77,68 @@ module _ (e k : ℕ) (ls : List Lent) (n : ℕ) where
       go true h = rw (h, refusal-in h ∙ q, lent-back ls h)
       go false h = rw (h, sym (refused-unread h) ∙ q)
 
-  -- a call that is not refused does what the bus does
-  pub bus-accepted : busCallRefusal e k ls n ≡ 0 → busCall e k ls n ≡ afterBusStep (busAccepted e k (bus (map deviceIn ls) n))
-  unfolding busCall busStepOf
-  bus-accepted q = go (everyLent hasRecord ls) refl
+  accepted-in : busCallRefusal e k ls n ≡ 0 → everyLent hasRecord ls ≡ true
+  accepted-in q = go (everyLent hasRecord ls) refl
     where
-      go : (t : Bool) → everyLent hasRecord ls ≡ t → busCall e k ls n ≡ afterBusStep (busAccepted e k (bus (map deviceIn ls) n))
-      go true h = rw (h, refusal-in h ∙ q)
+      go : (t : Bool) → everyLent hasRecord ls ≡ t → everyLent hasRecord ls ≡ true
+      go true h = h
       go false h = absurd (never-none (everyLent hasLengths ls) (sym (refused-unread h) ∙ q))
 
-  -- the answer of an accepted call
-  answered : busCallRefusal e k ls n ≡ 0 → busCall e k ls n .number ≡ numberOf (answerOf e k (n + 1) (map deviceIn ls))
-  unfolding busAccepted
+  -- a call that is not refused does what the bus does
+  pub bus-accepted : busCallRefusal e k ls n ≡ 0 → busCall e k ls n ≡ afterBusStep (busStepOf e k (bus (map deviceIn ls) n))
+  unfolding busCall
+  bus-accepted q = rw (accepted-in q)
+
+  bus-accepts : busCallRefusal e k ls n ≡ 0 → busRefusal e k (bus (map deviceIn ls) n) ≡ 0
+  bus-accepts q = refusal-in (accepted-in q) ∙ q
+
+  answered : busCallRefusal e k ls n ≡ 0 → busCall e k ls n .number ≡ numberOf (busStepOf e k (bus (map deviceIn ls) n) .answer)
   answered q = ap (λ (c : Called). c .number) (bus-accepted q)
+
+  sound : busCallRefusal e k ls n ≡ 0 → NoRefusal (busStepOf e k (bus (map deviceIn ls) n) .answer)
+  sound q = bus-answers e k (bus (map deviceIn ls) n) (bus-accepts q)
+
+  given : (x : ℕ) → busCallRefusal e k ls n ≡ suc x → busCall e k ls n .number ≡ suc x
+  given x q = ap (λ (c : Called). c .number) (bus-refused x q)
 
   -- a number below 256 is given exactly where it is the first refusal in its order
   pub refused-exactly : (r : ℕ) → suc r < 256 → (busCall e k ls n .number ≡ suc r) ↔ (busCallRefusal e k ls n ≡ suc r)
-  refused-exactly r small = (there (busCallRefusal e k ls n) refl, λ q. ap (λ (c : Called). c .number) (bus-refused r q))
+  refused-exactly r small = (there (busCallRefusal e k ls n) refl, given r)
     where
       there : (x : ℕ) → busCallRefusal e k ls n ≡ x → busCall e k ls n .number ≡ suc r → busCallRefusal e k ls n ≡ suc r
-      there zero q h =
-          absurd (omega (arith, sym (answered q) ∙ h, no-refusal-number (answerOf e k (n + 1) (map deviceIn ls)) (bus-answers e k (n + 1) (map deviceIn ls))))
-      there (suc x) q h = q ∙ sym (ap (λ (c : Called). c .number) (bus-refused x q)) ∙ h
+      there zero q h = absurd (omega (arith, sym (answered q) ∙ h, no-refusal-number (busStepOf e k (bus (map deviceIn ls) n) .answer) (sound q)))
+      there (suc x) q h = q ∙ sym (given x q) ∙ h
 
   -- every other number exactly where the event is accepted and the bus has the answer of that number: 257 for an acknowledge that is no command's, 258 for
   -- no acknowledge, 259 to 261 for a command that is taken, unknown or out of range, 512 and more for a byte read, 256 for none of these
   pub answered-exactly :
       (a : Answer) → NoRefusal a
-      → (busCall e k ls n .number ≡ numberOf a) ↔ ((busCallRefusal e k ls n ≡ 0) × (answerOf e k (n + 1) (map deviceIn ls) ≡ a))
+      → (busCall e k ls n .number ≡ numberOf a) ↔ ((busCallRefusal e k ls n ≡ 0) × (busStepOf e k (bus (map deviceIn ls) n) .answer ≡ a))
   answered-exactly a na = (there (busCallRefusal e k ls n) refl, λ (q, h). answered q ∙ ap numberOf h)
     where
       there :
           (x : ℕ) → busCallRefusal e k ls n ≡ x → busCall e k ls n .number ≡ numberOf a
-          → (busCallRefusal e k ls n ≡ 0) × (answerOf e k (n + 1) (map deviceIn ls) ≡ a)
-      there zero q h = (q, same-answer _ a (bus-answers e k (n + 1) (map deviceIn ls)) na (sym (answered q) ∙ h))
-      there (suc x) q h =
-          absurd (omega (arith, refusal-small, q, sym (ap (λ (c : Called). c .number) (bus-refused x q)) ∙ h, no-refusal-number a na))
+          → (busCallRefusal e k ls n ≡ 0) × (busStepOf e k (bus (map deviceIn ls) n) .answer ≡ a)
+      there zero q h = (q, same-answer _ a (sound q) na (sym (answered q) ∙ h))
+      there (suc x) q h = absurd (omega (arith, refusal-small, q, sym (given x q) ∙ h, no-refusal-number a na))
+
+  -- a byte's number tells of an acknowledge exactly where the call is not refused and some chip, were it alone, acknowledges the byte
+  pub acknowledged-exactly :
+      e < 256
+      → (tellsAcknowledge (busCall e k ls n .number) ≡ true) ↔ ((busCallRefusal e k ls n ≡ 0) × Somewhere (Acknowledges e n) (map deviceIn ls))
+  acknowledged-exactly byte = (there (busCallRefusal e k ls n) refl, λ (q, some). told q ∙ by-some (bus-accepts q) .1 some)
+    where
+      b : Bus
+      b = bus (map deviceIn ls) n
+
+      by-some : busRefusal e k b ≡ 0 → (isAcknowledged (busStepOf e k b .answer) ≡ true) ↔ Somewhere (Acknowledges e n) (map deviceIn ls)
+      by-some h = by-bus.acknowledged-exactly e k b h byte
+
+      told : busCallRefusal e k ls n ≡ 0 → tellsAcknowledge (busCall e k ls n .number) ≡ isAcknowledged (busStepOf e k b .answer)
+      told q = ap tellsAcknowledge (answered q) ∙ sym (acknowledge-told (busStepOf e k b .answer) (sound q))
+
+      there :
+          (x : ℕ) → busCallRefusal e k ls n ≡ x → tellsAcknowledge (busCall e k ls n .number) ≡ true
+          → (busCallRefusal e k ls n ≡ 0) × Somewhere (Acknowledges e n) (map deviceIn ls)
+      there zero q h = (q, by-some (bus-accepts q) .0 (sym (told q) ∙ h))
+      there (suc x) q h = absurd (false-true (sym (refusal-tells-none (suc x) (rw q at refusal-small)) ∙ sym (ap tellsAcknowledge (given x q)) ∙ h))

@@ -1,25 +1,25 @@
 -- The numbers of answers: those of an accepted event begin at 256, and each tells its answer.
-use mathlib.Core.Bool.{Bool, true, false, cond}
-use mathlib.Core.List.{List, [], _∷_}
+use mathlib.Core.Bool.{Bool, true, false, cond, _&&_}
 use mathlib.Core.Path.{_≡_, refl, sym, ap, _∙_}
 use Prim.Native.Nat.{ℕ, _+_, _-_, _≤_}
 use native.Mathlib.Omega.{arith}
-use borrow.Author.Tests.{ne-eqb}
-use lib.Dec.{eqb}
-use Rattle.registers.specs.declared.Phase.{Phase}
-use Rattle.registers.specs.declared.Phase.the-variants.{Idle, AddressAwaited, Ignoring, ControlAwaited, OneByte, EndlessBytes, Reading, ReadEnded}
-use Rattle.registers.specs.State.{State}
+use borrow.Author.Tests.{ne-eqb, lt-leb}
+use lib.Dec.{eqb, leb}
 use Rattle.commands.specs.declared.answer.CommandAnswer.{CommandAnswer}
 use Rattle.commands.specs.declared.answer.CommandAnswer.the-variants.{Taken, Unknown, OutOfRange}
 use Rattle.commands.specs.Command.{commandNumber}
 use Rattle.engine.specs.declared.answer.Answer.{Answer}
 use Rattle.engine.specs.declared.answer.Answer.the-variants.{Refused, Nothing, Acknowledged, NotAcknowledged, Command, Read}
-use Rattle.engine.specs.declared.event.Event.{Event}
-use Rattle.engine.specs.declared.event.Event.the-variants.{Byte, Start, Stop, ReadAcknowledged, ReadNotAcknowledged, Reset, Sensor, Unlisted}
-use Rattle.engine.specs.Event.{eventOf, numberOf}
-use Rattle.engine.specs.Step.{acknowledge, contentOf, onByte, nothingStored, applied}
-use Rattle.bus.specs.Bus.{Device, alone}
-use Rattle.bus.specs.Step.{misses, heardBy, unanswered, orElse, answerOf}
+use Rattle.engine.specs.Event.{numberOf, isAcknowledged}
+use Rattle.bus.specs.Bus.{Bus}
+use Rattle.bus.specs.Refusals.{busRefusal}
+use Rattle.bus.specs.Step.{busStepOf}
+use Rattle.bus.proofs.Laws.{never-refused}
+use Rattle.bus_host.specs.BusCall.{tellsAcknowledge}
+
+and-false : (t : Bool) → t && false ≡ false
+and-false true = refl
+and-false false = refl
 
 abbrev pub NoRefusal : Answer → Type 0
 NoRefusal (Refused k) = ⊥
@@ -79,68 +79,30 @@ answer-back (Read b) n =
 pub same-answer : (a b : Answer) → NoRefusal a → NoRefusal b → numberOf a ≡ numberOf b → a ≡ b
 same-answer a b na nb e = sym (answer-back a na) ∙ ap answerFor e ∙ answer-back b nb
 
--- ---- no chip refuses, once the bus has accepted
+-- ---- the bus's answers
 
-acknowledges : (t : Bool) → NoRefusal (acknowledge t)
-unfolding acknowledge
-acknowledges true = tt
-acknowledges false = tt
+not-refused : (a : Answer) → ((r : ℕ) → a ≡ Refused r → ⊥) → NoRefusal a
+not-refused (Refused r) n = absurd (n r refl)
+not-refused Nothing n = tt
+not-refused Acknowledged n = tt
+not-refused NotAcknowledged n = tt
+not-refused (Command a) n = tt
+not-refused (Read b) n = tt
 
-content-answers : (rs : Bool) (p : Phase) (b : ℕ) (s : State) → NoRefusal (contentOf rs p b s .answer)
-content-answers true p b s = tt
-content-answers false p b s = tt
+pub bus-answers : (e k : ℕ) (b : Bus) → busRefusal e k b ≡ 0 → NoRefusal (busStepOf e k b .answer)
+bus-answers e k b h = not-refused (busStepOf e k b .answer) (never-refused e k b h)
 
-byte-answers : (p : Phase) (b : ℕ) (s : State) → NoRefusal (onByte p b s .answer)
-byte-answers Idle b s = tt
-byte-answers AddressAwaited b s = acknowledges _
-byte-answers Ignoring b s = tt
-byte-answers ControlAwaited b s = tt
-byte-answers (OneByte rs) b s = content-answers rs ControlAwaited b s
-byte-answers (EndlessBytes rs) b s = content-answers rs (EndlessBytes rs) b s
-byte-answers Reading b s = tt
-byte-answers ReadEnded b s = tt
+pub command-tells : (a : CommandAnswer) → tellsAcknowledge (commandNumber a) ≡ true
+command-tells Taken = refl
+command-tells Unknown = refl
+command-tells OutOfRange = refl
 
-applied-answers : (v : Event) (s : State) → NoRefusal (applied v s .answer)
-unfolding applied
-applied-answers (Byte b) s = byte-answers (s .chip .phase) b s
-applied-answers Start s = tt
-applied-answers Stop s = tt
-applied-answers ReadAcknowledged s = tt
-applied-answers ReadNotAcknowledged s = tt
-applied-answers Reset s = tt
-applied-answers (Sensor value) s = tt
-applied-answers Unlisted s = tt
-
-heard-answers : (e k n : ℕ) (d : Device) → NoRefusal (heardBy e k n d .answer)
-unfolding heardBy
-heard-answers e k n d = go (misses e k d)
-  where
-    go : (t : Bool) → NoRefusal (cond t (nothingStored Nothing (d .chip) (alone n d)) (applied (eventOf e) (alone n d)) .answer)
-    go true = tt
-    go false = applied-answers (eventOf e) (alone n d)
-
-unanswered-answers : (v : Event) → NoRefusal (unanswered v)
-unanswered-answers (Byte b) = tt
-unanswered-answers Start = tt
-unanswered-answers Stop = tt
-unanswered-answers ReadAcknowledged = tt
-unanswered-answers ReadNotAcknowledged = tt
-unanswered-answers Reset = tt
-unanswered-answers (Sensor value) = tt
-unanswered-answers Unlisted = tt
-
-or-else-answers : (a b : Answer) → NoRefusal a → NoRefusal b → NoRefusal (orElse a b)
-or-else-answers (Refused k) b na nb = na
-or-else-answers Nothing b na nb = nb
-or-else-answers Acknowledged b na nb = tt
-or-else-answers NotAcknowledged b na nb = nb
-or-else-answers (Command c) b na nb = tt
-or-else-answers (Read v) b na nb = go (eqb v 255)
-  where
-    go : (t : Bool) → NoRefusal (cond t b (Read v))
-    go true = nb
-    go false = tt
-
-pub bus-answers : (e k n : ℕ) (ds : List Device) → NoRefusal (answerOf e k n ds)
-bus-answers e k n [] = unanswered-answers (eventOf e)
-bus-answers e k n (d ∷ ds) = or-else-answers (heardBy e k n d .answer) (answerOf e k n ds) (heard-answers e k n d) (bus-answers e k n ds)
+-- the numbers by which a byte is acknowledged
+pub acknowledge-told : (a : Answer) → NoRefusal a → isAcknowledged a ≡ tellsAcknowledge (numberOf a)
+unfolding isAcknowledged
+acknowledge-told (Refused k) n = absurd n
+acknowledge-told Nothing n = refl
+acknowledge-told Acknowledged n = refl
+acknowledge-told NotAcknowledged n = refl
+acknowledge-told (Command a) n = sym (command-tells a)
+acknowledge-told (Read b) n = simp (ne-eqb (512 + b) 257 (λ q. omega arith), lt-leb (512 + b) 261 (omega arith), and-false)

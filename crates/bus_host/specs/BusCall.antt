@@ -61,3 +61,8 @@ lentRefusal ls =
 -- then 3, 13 and 4, of the event
 abbrev pub busCallRefusal : ℕ → ℕ → List Lent → ℕ → ℕ
 busCallRefusal e k ls n = lentRefusal ls then sentRefusal e k n
+
+-- ---- the numbers by which a byte is acknowledged: 257, and of commands 259, 260 and 261
+
+abbrev pub tellsAcknowledge : ℕ → Bool
+tellsAcknowledge r = eqb r 257 || (leb 259 r && leb r 261)
