@@ -68,16 +68,17 @@ module _ (e k n : ℕ) (ws0 m0 w0 ws1 m1 w1 ws2 m2 w2 ws3 m3 w3 : List ℕ) (x :
       (c c′ : Chips) (a : Answer) (r n′ : ℕ) (l0 m0′ w0′ l1 m1′ w1′ l2 m2′ w2′ l3 m3′ w3′ : List ℕ)
       → x ≡ Records c
       → busAfter a (four c′ m0′ w0′ m1′ w1′ m2′ w2′ m3′ w3′) n′ ≡ busStepOf e k (bus (four c m0 w0 m1 w1 m2 w2 m3 w3) n)
-      → l0 ≡ stored (c′ .chip0) ws0 → l1 ≡ stored (c′ .chip1) ws1 → l2 ≡ stored (c′ .chip2) ws2 → l3 ≡ stored (c′ .chip3) ws3 → r ≡ numberOf a
-      → called r (fourLent l0 m0′ w0′ l1 m1′ w1′ l2 m2′ w2′ l3 m3′ w3′) n′ ≡ busCall e k (fourLent ws0 m0 w0 ws1 m1 w1 ws2 m2 w2 ws3 m3 w3) n
+      → l0 ≡ stored (c′ .chip0) ws0 → l1 ≡ stored (c′ .chip1) ws1 → l2 ≡ stored (c′ .chip2) ws2 → l3 ≡ stored (c′ .chip3) ws3
+      → r ≡ numberOf a
+      → called r (fourLent l0 m0′ w0′ l1 m1′ w1′ l2 m2′ w2′ l3 m3′ w3′) n′
+      ≡ busCall e k (fourLent ws0 m0 w0 ws1 m1 w1 ws2 m2 w2 ws3 m3 w3) n
   unfolding busCall fourRead
   call-done c c′ a r n′ l0 m0′ w0′ l1 m1′ w1′ l2 m2′ w2′ l3 m3′ w3′ is ea e0 e1 e2 e3 er =
       let found = read-all (standsFor ws0 && (standsFor ws1 && (standsFor ws2 && standsFor ws3))) (chipsOf ws0 ws1 ws2 ws3) c (sym ex ∙ is) in
       let s0 = both (standsFor ws0) (standsFor ws1 && (standsFor ws2 && standsFor ws3)) (found .0) in
       let s1 = both (standsFor ws1) (standsFor ws2 && standsFor ws3) (s0 .1) in
       let s2 = both (standsFor ws2) (standsFor ws3) (s1 .1) in
-      let done : busAfter a (four c′ m0′ w0′ m1′ w1′ m2′ w2′ m3′ w3′) n′ ≡ busStepOf e k (bus (four (chipsOf ws0 ws1 ws2 ws3) m0 w0 m1 w1 m2 w2 m3 w3) n) =
-      ea ∙ ap (λ (d : Chips). busStepOf e k (bus (four d m0 w0 m1 w1 m2 w2 m3 w3) n)) (found .1) in
+      let done = ea ∙ ap (λ (d : Chips). busStepOf e k (bus (four d m0 w0 m1 w1 m2 w2 m3 w3) n)) (found .1) in
       rw (
         s0 .0,
         s1 .0,

@@ -7,7 +7,8 @@ use native.Mathlib.Omega.{arith}
 use lib.Dec.{eqb, leb, ltb}
 use lib.ListN.{getD}
 use Rattle.registers.proofs.Below.{allBelow, below-at, same, same-eq}
-use Rattle.bus.specs.Bus.{Device, every, howMany, isIdlePhase, isAwaitingPhase, isIgnoringPhase, isPastPhase, isIdle, awaitsAddress, isIgnoring, isPast, hasOtherPins, pinsDiffer, phasesAgree}
+use Rattle.bus.specs.Bus.{Device, every, howMany, isIdle, awaitsAddress, isIgnoring, isPast, hasOtherPins, pinsDiffer, phasesAgree}
+use Rattle.bus.specs.Bus.{isIdlePhase, isAwaitingPhase, isIgnoringPhase, isPastPhase}
 use Rattle.bus.specs.Refusals.{isLong, isAllowed, canShare}
 use Rattle.record_words.specs.Words.{PHASE, PHASE-RS, isSet, phaseOf, standsFor, chipOf}
 use Rattle.record_words.proofs.Laws.{words-chip-words, stands-allowed}

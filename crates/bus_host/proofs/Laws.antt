@@ -17,7 +17,8 @@ use Rattle.bus.specs.Refusals.{devicesRefusal, isSensorReading, sentRefusal, bu
 use Rattle.bus.specs.Step.{busStepOf}
 use Rattle.bus.proofs.Laws as by-bus
 use Rattle.bus_host.specs.Buffers.{Lent, deviceIn, hasLengths, hasRecord, everyLent}
-use Rattle.bus_host.specs.BusCall.{Called, called, noRecordFor, afterBusStep, busCall, pinsWordsDiffer, phaseWordsAgree, lentRefusal, busCallRefusal, tellsAcknowledge}
+use Rattle.bus_host.specs.BusCall.{Called, called, noRecordFor, afterBusStep, busCall, tellsAcknowledge}
+use Rattle.bus_host.specs.BusCall.{pinsWordsDiffer, phaseWordsAgree, lentRefusal, busCallRefusal}
 use Rattle.bus_host.proofs.Devices.{long-in, allowed-in, share-in, lent-back}
 use Rattle.bus_host.proofs.Numbers.{NoRefusal, no-refusal-number, same-answer, bus-answers, acknowledge-told}
 

@@ -16,15 +16,15 @@ is-long-requires-4 c κs = search needs
 
 returns : tie.Need-returns
 returns c =
-    let first = c .before .before .before .before in
+    let second = c .before .before .before in
     simp
-    (rw (first .is-long .ensures, c .before .before .before .is-long2 .ensures, c .before .before .is-long3 .ensures, c .before .is-long4 .ensures) at (c .if1 .taken))
+    (rw (second .before .is-long .ensures, second .is-long2 .ensures, c .before .before .is-long3 .ensures, c .before .is-long4 .ensures) at (c .if1 .taken))
 
 returns-2 : tie.Need-returns-2
 returns-2 c =
-    let first = c .before .before .before .before in
+    let second = c .before .before .before in
     simp
-    (rw (first .is-long .ensures, c .before .before .before .is-long2 .ensures, c .before .before .is-long3 .ensures, c .before .is-long4 .ensures) at (c .if1 .left))
+    (rw (second .before .is-long .ensures, second .is-long2 .ensures, c .before .before .is-long3 .ensures, c .before .is-long4 .ensures) at (c .if1 .left))
 
 pub no-record-spec : {M : Type 1} → statement M
 no-record-spec =
