@@ -1,12 +1,12 @@
--- The calls of the host are refused exactly when the documents say, and a refused call changes nothing; how commands are answered and counted, demand 3
--- and the last writer by calls alone. (Views: the glass and its pulses. record_words: words and record.)
+-- The calls of the host are refused exactly when the documents say, and a refused call changes nothing; what a call adds to the count; how commands are
+-- answered and counted, demand 3 and the last writer by calls alone. (Views: the glass and its pulses. record_words: words and record.)
 use mathlib.Core.Path.{_≡_, refl, sym, ap, _∙_, subst}
 use mathlib.Core.Bool.{Bool, true, false}
 use mathlib.Core.List.{List}
 use mathlib.Core.Logic.{_↔_, inl, inr}
-use Prim.Native.Nat.{ℕ, suc, _≤_}
+use Prim.Native.Nat.{ℕ, suc, _+_, _≤_}
 use native.Mathlib.Omega.{arith}
-use native.Mathlib.Nat.{suc-ne-zero}
+use native.Mathlib.Nat.{suc-ne-zero, add-zero}
 use lib.ListN.{getD, take}
 use Rattle.registers.specs.Places.{H}
 use Rattle.registers.specs.State.{State, state}
@@ -24,6 +24,8 @@ use Rattle.engine.proofs.Tallies.{tally-refused}
 use Rattle.chip.specs.Promised.{CommandAnswer, Unknown, OutOfRange, CommandWhen, commandNumber}
 use Rattle.engine.specs.declared.answer.Answer.the-variants.{Command}
 use Rattle.chip.proofs.Laws.{answered-exactly}
+use Rattle.chip.proofs.LastWriter.{counts-accepted}
+use Rattle.chip.proofs.RunOn.{run-counts}
 use Rattle.record_words.specs.Words.{standsFor, chipOf}
 use Rattle.host.specs.Calls.{noRecord, stepped, Stepped, stepCall, stepRefusal, afterStep, entryRefusal, ran, runCall, afterRun}
 use Rattle.host.specs.Compiling.{Compiled, compiled, compileCall}
@@ -54,6 +56,10 @@ module _ (ws m w : List ℕ) (count : ℕ) where
         go true h = rw (h, refusal-of-chip ws m w event count h ∙ r)
         go false h = absurd (never-none ws m w (sym (refused-at-entry ws m w h (eventRefusal event count)) ∙ r))
 
+    -- and adds 1 to the count
+    pub step-adds : stepRefusal event ws m w count ≡ 0 → stepCall event ws m w count .count ≡ count + 1
+    step-adds r = ap (λ (s : Stepped). s .count) (step-accepted r) ∙ counts-accepted event (state (chipOf ws) m w count)
+
   module _ (events : List ℕ) where
     -- and nothing is counted
     pub run-refused : (k : ℕ) → entryRefusal ws m w ≡ suc k → runCall events ws m w count ≡ ran (suc k) 0 0 0 ws m w count
@@ -80,6 +86,15 @@ module _ (ws m w : List ℕ) (count : ℕ) where
             ≡ afterRun (runFrom 0 events (state (chipOf ws) m w count)) (tally Unknown events (state (chipOf ws) m w count)) (tally OutOfRange events (state (chipOf ws) m w count))
         go true h = rw (h, entry-of-chip ws m w count h ∙ r)
         go false h = absurd (never-none ws m w (sym (entry-of-none ws m w h) ∙ r))
+
+    -- whatever it is lent, it adds as many to the count as it did
+    pub run-adds : runCall events ws m w count .count ≡ count + runCall events ws m w count .done
+    unfolding runCall
+    run-adds = go (standsFor ws) refl
+      where
+        go : (t : Bool) → standsFor ws ≡ t → runCall events ws m w count .count ≡ count + runCall events ws m w count .done
+        go true h = rw h (run-counts events (state (chipOf ws) m w count))
+        go false h = rw h (sym (add-zero count))
 
 -- ---- compiling
 
