@@ -1,4 +1,5 @@
--- A chip's record in words: the registers by name, then pins, status byte, last RS, phase and event count, and how many bytes were acknowledged.
+-- A chip's record in words, and what the bus has seen: the registers by name, then pins, status byte, last RS and phase, the event count, and how many bytes
+-- were acknowledged.
 use mathlib.Core.Bool.{Bool, true, false, cond}
 use mathlib.Core.List.{List, [], _∷_, _++_}
 use Prim.Native.Nat.{ℕ}
