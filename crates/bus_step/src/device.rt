@@ -1,30 +1,38 @@
-// One chip's part in an event that the bus accepts.
+// One chip's part in an event of the bus.
 ghost use mathlib.Core.Path.{_≡_};
-ghost use Rattle.engine.specs.Step.{after};
 ghost use Rattle.bus.specs.Bus.{device};
-ghost use Rattle.bus.specs.Step.{heardBy};
+ghost use Rattle.bus_step.specs.Part.{part, partOf};
 use engine::answer::Answer;
-use engine::apply::Applied;
 use registers::Chip;
 
-// A sensor reading is for the chip whose pins it names; every other event is for all.
+// The chip's answer, and the chip after the event.
+pub struct Heard {
+    pub answer: Answer,
+    pub chip: Chip,
+}
+
+// A sensor reading is for the chip whose pins it names; every other event is for all. The step tests the refusals of one chip again: what a run does
+// with an event has a single caller, and is fast for that reason.
 pub fn hear(
     event: u16,
     pins: u64,
-    number: u64,
+    count: u64,
     chip: Chip,
     memory: &mut [u8],
     writers: &mut [u64],
-) -> Applied
-    ensures { λ r. ⌜ after (r .answer) (r .chip) (now (memory .exit)) (now (writers .exit)) number
-        ≡ heardBy event pins number (device chip (now (memory .entry)) (now (writers .entry))) ⌝ }
+) -> Heard
+    ensures { λ r. ⌜ part (r .answer) (device (r .chip) (now (memory .exit)) (now (writers .exit)))
+        ≡ partOf event pins count (device chip (now (memory .entry)) (now (writers .entry))) ⌝ }
 {
     let own_pins = chip.pins as u64;
     if crate::refusal::is_sensor_reading(event) & (own_pins != pins) {
-        return Applied {
+        return Heard {
             answer: Answer::Nothing,
             chip,
         };
     }
-    engine::apply::apply(event, number, chip, memory, writers)
+    let stepped = engine::step::step(event, chip, count, memory, writers);
+    let answer = stepped.answer;
+    let chip = stepped.chip;
+    Heard { answer, chip }
 }

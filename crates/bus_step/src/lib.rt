@@ -2,8 +2,9 @@
 ghost use mathlib.Core.Path.{_≡_};
 ghost use mathlib.Core.List.{map};
 ghost use Rattle.bus.specs.Bus.{bus};
-ghost use Rattle.bus.specs.Step.{deviceAfter, answerOf, busAfter, busStepOf};
+ghost use Rattle.bus.specs.Step.{busAfter, busStepOf};
 ghost use Rattle.bus_step.specs.Four.{four};
+ghost use Rattle.bus_step.specs.Part.{deviceBy, answerBy};
 use engine::answer::Answer;
 use registers::Chip;
 
@@ -33,11 +34,11 @@ pub struct BusStepped {
     pub count: u64,
 }
 
-// What an accepted event does to the four; the number is its own.
+// What an event does to each of the four, and what the bus answers.
 fn deliver(
     event: u16,
     pins: u64,
-    number: u64,
+    count: u64,
     chips: Chips,
     memory0: &mut [u8],
     writers0: &mut [u64],
@@ -50,16 +51,16 @@ fn deliver(
 ) -> Delivered
     ensures { λ r. ⌜ four (r .chips) (now (memory0 .exit)) (now (writers0 .exit)) (now (memory1 .exit)) (now (writers1 .exit))
         (now (memory2 .exit)) (now (writers2 .exit)) (now (memory3 .exit)) (now (writers3 .exit))
-        ≡ map (deviceAfter event pins number) (four chips (now (memory0 .entry)) (now (writers0 .entry)) (now (memory1 .entry)) (now (writers1 .entry))
+        ≡ map (deviceBy event pins count) (four chips (now (memory0 .entry)) (now (writers0 .entry)) (now (memory1 .entry)) (now (writers1 .entry))
         (now (memory2 .entry)) (now (writers2 .entry)) (now (memory3 .entry)) (now (writers3 .entry))) ⌝ }
     ensures { λ r. ⌜ r .answer
-        ≡ answerOf event pins number (four chips (now (memory0 .entry)) (now (writers0 .entry)) (now (memory1 .entry)) (now (writers1 .entry))
+        ≡ answerBy event pins count (four chips (now (memory0 .entry)) (now (writers0 .entry)) (now (memory1 .entry)) (now (writers1 .entry))
         (now (memory2 .entry)) (now (writers2 .entry)) (now (memory3 .entry)) (now (writers3 .entry))) ⌝ }
 {
-    let heard0 = device::hear(event, pins, number, chips.chip0, memory0, writers0);
-    let heard1 = device::hear(event, pins, number, chips.chip1, memory1, writers1);
-    let heard2 = device::hear(event, pins, number, chips.chip2, memory2, writers2);
-    let heard3 = device::hear(event, pins, number, chips.chip3, memory3, writers3);
+    let heard0 = device::hear(event, pins, count, chips.chip0, memory0, writers0);
+    let heard1 = device::hear(event, pins, count, chips.chip1, memory1, writers1);
+    let heard2 = device::hear(event, pins, count, chips.chip2, memory2, writers2);
+    let heard3 = device::hear(event, pins, count, chips.chip3, memory3, writers3);
     let answer0 = heard0.answer;
     let answer1 = heard1.answer;
     let answer2 = heard2.answer;
@@ -115,7 +116,7 @@ pub fn step(
     let delivered = deliver(
         event,
         pins,
-        number,
+        count,
         chips,
         memory0,
         writers0,

@@ -1,4 +1,4 @@
-// Events in order, for a run and for a single step. It alone calls `apply` in a run, so that the chip's record is not copied at each event.
+// Events in order, for a run and for a single step. It alone calls `apply`, so that the chip's record is not copied at each event.
 ghost use mathlib.Core.Path.{_≡_};
 ghost use Rattle.registers.specs.State.{state};
 ghost use Rattle.commands.specs.declared.answer.CommandAnswer.the-variants.{Unknown, OutOfRange};

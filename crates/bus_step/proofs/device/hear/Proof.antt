@@ -12,8 +12,8 @@ is-sensor-reading-requires c κs = search needs
 returns : tie.Need-returns
 returns c = missed _ _ _ _ _ (c .before .is-sensor-reading .ensures) (c .if1 .taken)
 
-apply-requires : tie.Need-apply-requires
-apply-requires c κs = search needs
+step-requires : tie.Need-step-requires
+step-requires c κs = search needs
 
 same-length : tie.Need-same-length
 same-length c = search needs
@@ -23,8 +23,9 @@ same-length-2 c = search needs
 
 returns-2 : tie.Need-returns-2
 returns-2 c =
-    let tested = c .before .before .before .before .before .before .before in
-    heard _ _ _ _ _ (tested .before .is-sensor-reading .ensures) _ (tested .if1 .left) (c .before .before .before .before .apply .ensures)
+    let stepped = c .before .before .before .before .before in
+    let tested = stepped .before .before .before in
+    heard _ _ _ _ _ (tested .before .is-sensor-reading .ensures) _ (tested .if1 .left) (stepped .step .ensures)
 
 pub hear-spec : {M : Type 1} → statement M
 hear-spec =
@@ -33,7 +34,7 @@ hear-spec =
     cast-own-pins
     is-sensor-reading-requires
     returns
-    apply-requires
+    step-requires
     same-length
     same-length-2
     returns-2)
