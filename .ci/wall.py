@@ -1,7 +1,7 @@
-"""The compiler goes by what the crate `chip` promises: none of its crates may list one of the chip's inside."""
+"""The compiler, and demand 3 on a bus, go by what is promised of the chip: none of their crates may list one of its inside."""
 import project
 
-COMPILER = ["drawing", "compiler"]
+OUTSIDE = ["drawing", "compiler", "bus_drawing"]
 INSIDE = ["engine", "phases", "commands", "display"]
 # what the chip stands on, and the compiler may see
 SHARED = ["registers", "instruction_table", "row_search", "text"]
@@ -17,8 +17,8 @@ def reached(crates, name):
 
 crates = project.crates()
 faults = [f"crates.txt: {crate} lists {name}, the chip's inside"
-          for crate in COMPILER for name in crates[crate] if name in INSIDE]
+          for crate in OUTSIDE for name in crates[crate] if name in INSIDE]
 faults += [f"crates.txt: chip stands on {name}, and .ci/wall.py does not say on which side of the wall that is"
            for name in sorted(reached(crates, "chip") - {*INSIDE, *SHARED})]
 project.finish("wall", faults)
-print(f"wall: none of {', '.join(COMPILER)} lists any of {', '.join(INSIDE)}")
+print(f"wall: none of {', '.join(OUTSIDE)} lists any of {', '.join(INSIDE)}")
