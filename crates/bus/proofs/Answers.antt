@@ -14,7 +14,7 @@ use Rattle.commands.specs.Command.{answerTo}
 use Rattle.phases.specs.Changes.{readByte}
 use Rattle.phases.specs.Phases.{isReading}
 use Rattle.engine.specs.declared.answer.Answer.{Answer}
-use Rattle.engine.specs.declared.answer.Answer.the-variants.{Refused, Nothing, Command, Read}
+use Rattle.engine.specs.declared.answer.Answer.the-variants.{Refused, Nothing, NotAcknowledged, Command, Read}
 use Rattle.engine.specs.declared.event.Event.{Event}
 use Rattle.engine.specs.Event.{eventOf, isAcknowledged}
 use Rattle.engine.specs.Step.{After, onByte, applied, accepted, stepOf}
@@ -29,7 +29,7 @@ use Rattle.bus.proofs.Every.{map-same}
 use Rattle.bus.proofs.Phases.{missed, not-missed, reading-is-sensor}
 use Rattle.bus.proofs.Refusals.{accepted-bus-step, bus-accepts, accepted-alone}
 use Rattle.bus.proofs.Speaking.{others-ignoring, reading-past, command-past, no-reading, misses-none, Says, answered-by}
-use Rattle.bus.proofs.Speaking.{Quiet, quiet-all, one-speaks, heard-by-all, heard-byte, one-acknowledges, none-acknowledges}
+use Rattle.bus.proofs.Speaking.{ToByte, no-acknowledge, to-byte, Quiet, quiet-all, one-speaks, heard-by-all, heard-byte, one-acknowledges, none-acknowledges}
 use Rattle.bus.proofs.Speaking.{Silent, unanswered-silent, Unrefused, heard-unrefused, read-or, heard-read, unread-quiet, none-read}
 
 -- ---- the laws, of an accepted event
@@ -74,6 +74,14 @@ module _ (e k : ℕ) (b : Bus) (h : busRefusal e k b ≡ 0) where
       back s =
           ap isAcknowledged answer-is
           ∙ one-acknowledges e k n byte (b .devices) (s .place) (s .which) (s .stands) (same (s .place) (s .which) (s .stands) ∙ s .so)
+
+  -- a byte that no chip acknowledges is not acknowledged, and gets no other answer
+  pub not-acknowledged : e < 256 → (Somewhere (Acknowledges e (b .count)) (b .devices) → ⊥) → busStepOf e k b .answer ≡ NotAcknowledged
+  not-acknowledged byte none = go (isAcknowledged (busStepOf e k b .answer)) refl
+    where
+      go : (t : Bool) → isAcknowledged (busStepOf e k b .answer) ≡ t → busStepOf e k b .answer ≡ NotAcknowledged
+      go true q = absurd (none (acknowledged-exactly byte .0 q))
+      go false q = no-acknowledge _ (subst ToByte (sym answer-is) (to-byte e k (b .count + 1) byte (b .devices))) q
 
   -- a command byte's answer is that of the chip that got it
   pub command-answer :

@@ -1,12 +1,13 @@
 -- How far non-interference goes: streams that it speaks of do lead the chip apart whose data they change, and an address byte is no data.
 use mathlib.Core.Bool.{Bool, true, cond}
-use mathlib.Core.List.{List, [], _∷_}
+use mathlib.Core.List.{List, [], _∷_, _++_}
 use mathlib.Core.Logic.{inl}
-use mathlib.Core.Path.{_≡_, refl, sym, ap, _∙_}
+use mathlib.Core.Path.{_≡_, refl, sym, ap, _∙_, subst}
 use Prim.Native.Nat.{ℕ, _+_, _/_, _%_, _^_, _≤_, _<_}
 use native.Mathlib.Omega.{arith}
 use borrow.Author.Tests.{eq-eqb, ne-eqb}
-use Rattle.registers.specs.declared.Phase.the-variants.{Ignoring, ControlAwaited}
+use Rattle.registers.specs.declared.Phase.{Phase}
+use Rattle.registers.specs.declared.Phase.the-variants.{Idle, AddressAwaited, Ignoring, ControlAwaited, OneByte, EndlessBytes, Reading, ReadEnded}
 use Rattle.registers.proofs.Below.{false-true}
 use Rattle.registers.proofs.Within.{allowed-pins}
 use Rattle.phases.specs.Phases.{isAddressed, phaseAfterAddress, phaseAfterControl}
@@ -15,17 +16,16 @@ use Rattle.engine.specs.Event.{eventOf}
 use Rattle.engine.proofs.Events.{byte-event}
 use Rattle.chip.specs.Phases.{awaitsCommand}
 use Rattle.chip.specs.Plays.{writeAddress}
-use Rattle.bus.specs.Apart.{Turn, turnAfter, turnAt, AllAlike, SameBut}
+use Rattle.bus.specs.Apart.{Turn, turnAfter, turnOf, turnAt, AllAlike, SameBytes, bytesSent, writtenTo, SameBut}
 use Rattle.bus.specs.Apart.Alike.{same, data-bytes}
 use Rattle.bus.specs.Apart.Turn.{address, data-byte, other}
 use Rattle.bus.specs.Bus.{Device, Bus, isIgnoringPhase}
-use Rattle.bus.specs.Phases.{phaseAfter, phaseAfterByte}
 use Rattle.bus.specs.Refusals.{BusFit}
 use Rattle.bus.specs.Streams.{Sent, sent, refusalAt, stepped, busPlayed, deviceWith, isOn}
 use Rattle.bus.specs.When.When.{none}
 use Rattle.bus.proofs.Alone.{counts-stepped, pick-after, stays-on, stepped-fit}
 use Rattle.bus.proofs.Fits.{fits-alone}
-use Rattle.bus.proofs.Phases.{device-phase}
+use Rattle.bus.proofs.Phases.{phaseAfter, phaseAfterByte, device-phase}
 use Rattle.bus.proofs.Picks.{OnBus, by-pins, with-pins}
 use Rattle.bus.proofs.Refusals.{exactly-when, sound-fit}
 
@@ -122,13 +122,41 @@ address-is-no-data b fit room p q apart on-p on-q s =
 abbrev pub speaking : ℕ → ℕ → List Sent
 speaking p e = sent 256 0 ∷ sent (writeAddress p) 0 ∷ sent e 0 ∷ []
 
+turn-opened : (p : ℕ) → p ≤ 3 → turnAfter p (eventOf (writeAddress p)) address ≡ data-byte
+turn-opened p low =
+    ap (λ (v : Event). turnAfter p v address) (byte-event (writeAddress p) (omega arith))
+    ∙ ap (λ (x : Bool). cond x data-byte other) (eq-eqb (writeAddress p) (writeAddress p) refl)
+
 speaking-alike : (p : ℕ) (t : Turn) (d e : ℕ) → p ≤ 3 → d < 256 → e < 256 → AllAlike p t (speaking p d) (speaking p e)
-speaking-alike p t d e low hd he = (same refl, (same refl, (data-bytes turn hd he, tt)))
+speaking-alike p t d e low hd he = (same refl, (same refl, (data-bytes (turn-opened p low) hd he, tt)))
+
+-- every byte behind the write address is data, and so may be another in the other stream: control bytes, commands and display bytes
+pub bytes-are-data : (p : ℕ) (xs ys : List ℕ) → SameBytes xs ys → AllAlike p data-byte (bytesSent xs) (bytesSent ys)
+bytes-are-data p [] [] pairs = tt
+bytes-are-data p [] (y ∷ ys) pairs = absurd pairs
+bytes-are-data p (x ∷ xs) [] pairs = absurd pairs
+bytes-are-data p (x ∷ xs) (y ∷ ys) pairs = (
+  data-bytes refl (pairs .0) (pairs .1),
+  subst (λ (v : Event). AllAlike p (turnAfter p v data-byte) (bytesSent xs) (bytesSent ys)) (sym (byte-event x (pairs .0))) (bytes-are-data p xs ys (pairs .2)),
+)
+
+pub message-is-data : (p : ℕ) (t : Turn) → p ≤ 3 → (xs ys : List ℕ) → SameBytes xs ys → AllAlike p t (opening p ++ bytesSent xs) (opening p ++ bytesSent ys)
+message-is-data p t low xs ys pairs =
+    (same refl, (same refl, subst (λ (u : Turn). AllAlike p u (bytesSent xs) (bytesSent ys)) (sym (turn-opened p low)) (bytes-are-data p xs ys pairs)))
+
+-- a stream that begins in mid-message: the chip is past its write address
+pub mid-message : (p : ℕ) (b : Bus) → writtenTo (deviceWith p (b .devices) .chip .phase) ≡ true → turnAt p (b .devices) ≡ data-byte
+mid-message p b = go (deviceWith p (b .devices) .chip .phase)
   where
-    turn : turnAfter p (eventOf (writeAddress p)) address ≡ data-byte
-    turn =
-        ap (λ (v : Event). turnAfter p v address) (byte-event (writeAddress p) (omega arith))
-        ∙ ap (λ (x : Bool). cond x data-byte other) (eq-eqb (writeAddress p) (writeAddress p) refl)
+    go : (q : Phase) → writtenTo q ≡ true → turnOf q ≡ data-byte
+    go Idle e = absurd (false-true e)
+    go AddressAwaited e = absurd (false-true e)
+    go Ignoring e = absurd (false-true e)
+    go ControlAwaited e = refl
+    go (OneByte rs) e = refl
+    go (EndlessBytes rs) e = refl
+    go Reading e = absurd (false-true e)
+    go ReadEnded e = absurd (false-true e)
 
 -- streams that are alike do lead the chip apart that they speak to: 80h announces one command byte, 40h display bytes
 pub data-lead-apart :

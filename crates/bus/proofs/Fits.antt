@@ -22,11 +22,10 @@ use Rattle.engine.specs.Step.{Fit, nothingStored, applied}
 use Rattle.engine.proofs.Allowed.{applied-fit}
 use Rattle.bus.specs.Bus.{Device, At, alone, deviceOf, every, howMany, isIdlePhase, isAwaitingPhase, isIgnoringPhase, isPastPhase, isIdle}
 use Rattle.bus.specs.Bus.{awaitsAddress, isPast, hasPins, hasOtherPins, pinsDiffer, onePast, phasesAgree}
-use Rattle.bus.specs.Phases.{phaseAfterByte, phaseAfter}
 use Rattle.bus.specs.Refusals.{isLong, isAllowed, BusFit}
 use Rattle.bus.specs.Step.{misses, heardBy, deviceAfter}
 use Rattle.bus.proofs.Every.{joined, either, or-left, or-right, every-at, every-map, every-same, as-many, no-more}
-use Rattle.bus.proofs.Phases.{device-phase, device-pins}
+use Rattle.bus.proofs.Phases.{phaseAfterByte, phaseAfter, device-phase, device-pins}
 
 -- ---- 1 and 2
 

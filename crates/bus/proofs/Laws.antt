@@ -11,13 +11,13 @@ use Rattle.commands.specs.declared.answer.CommandAnswer.{CommandAnswer}
 use Rattle.commands.specs.Command.{answerTo}
 use Rattle.phases.specs.Changes.{readByte, sensed}
 use Rattle.phases.specs.Phases.{isReading}
-use Rattle.engine.specs.declared.answer.Answer.the-variants.{Refused, Nothing, Command, Read}
+use Rattle.engine.specs.declared.answer.Answer.the-variants.{Refused, Nothing, NotAcknowledged, Command, Read}
 use Rattle.engine.specs.Event.{isAcknowledged}
 use Rattle.engine.specs.Step.{After, stepOf}
 use Rattle.chip.specs.When.{ListedEvent}
 use Rattle.bus.specs.Answers.{Acknowledges, AwaitsCommand, IsRead}
 use Rattle.bus.specs.Bus.{Device, Bus, bus, freshDevices, At, Somewhere, alone, deviceOf, isPast}
-use Rattle.bus.specs.Reach.{withChip, nowIn, pulsedDevice, KeptButPhase, HasPins}
+use Rattle.bus.specs.Reach.{withChip, nowIn, pulsedDevice, sensedAt, KeptButPhase, HasPins}
 use Rattle.bus.specs.Refusals.{isSensorReading, busRefusal}
 use Rattle.bus.specs.Step.{busAfter, misses, deviceAfter, busStepOf}
 use Rattle.bus.specs.When.{Sound, PinsNamed, When}
@@ -86,6 +86,10 @@ module _ (e k : ℕ) (b : Bus) where
       pub acknowledged-exactly : (isAcknowledged (busStepOf e k b .answer) ≡ true) ↔ Somewhere (Acknowledges e (b .count)) (b .devices)
       acknowledged-exactly = Answers.acknowledged-exactly e k b h byte
 
+      -- else it is not acknowledged, and gets no other answer
+      pub not-acknowledged : (Somewhere (Acknowledges e (b .count)) (b .devices) → ⊥) → busStepOf e k b .answer ≡ NotAcknowledged
+      not-acknowledged = Answers.not-acknowledged e k b h byte
+
       -- a command's answer is that of the chip that got it
       pub command-answer :
           (i : ℕ) (d : Device) → At i d (b .devices) → AwaitsCommand d → busStepOf e k b .answer ≡ Command (answerTo (d .chip .registers .h) e)
@@ -118,8 +122,9 @@ module _ (e k : ℕ) (b : Bus) where
     -- ---- a sensor reading
 
     module _ (sensor : isSensorReading e ≡ true) where
-      pub sensor-answer : busStepOf e k b .answer ≡ Nothing
-      sensor-answer = Answers.sensor-answer e k b h sensor
+      -- it is one for the chip whose pins it names
+      pub sensor-law : busStepOf e k b ≡ busAfter Nothing (map (sensedAt k (e - 512)) (b .devices)) (b .count + 1)
+      sensor-law = Reach.sensor-reaches e k b h sensor
 
       -- the chip whose pins it names takes it
       pub sensor-taken :

@@ -10,6 +10,7 @@ use Rattle.registers.specs.declared.Phase.the-variants.{Idle, AddressAwaited, I
 use Rattle.registers.specs.State.{State, state}
 use Rattle.registers.proofs.Below.{false-true}
 use Rattle.phases.specs.Changes.{controlled, pulsed, sensed}
+use Rattle.phases.specs.Phases.{isAddressed, phaseAfterAddress, phaseAfterControl, phaseAfterLastRead}
 use Rattle.engine.specs.declared.answer.Answer.the-variants.{Nothing}
 use Rattle.engine.specs.declared.event.Event.{Event}
 use Rattle.engine.specs.declared.event.Event.the-variants.{Byte, Start, Stop, ReadAcknowledged, ReadNotAcknowledged, Reset, Sensor, Unlisted}
@@ -17,9 +18,30 @@ use Rattle.engine.specs.Event.{eventOf}
 use Rattle.engine.specs.Step.{nothingStored, onByte, applied}
 use Rattle.engine.proofs.Events.{reading-event}
 use Rattle.bus.specs.Bus.{Device, alone, hasOtherPins}
-use Rattle.bus.specs.Phases.{phaseAfterByte, phaseAfter}
 use Rattle.bus.specs.Refusals.{isSensorReading}
 use Rattle.bus.specs.Step.{misses, heardBy, deviceAfter}
+
+-- ---- the phase after an event, by the event, the pins and the phase alone
+
+abbrev pub phaseAfterByte : ℕ → ℕ → Phase → Phase
+phaseAfterByte b pins Idle = Idle
+phaseAfterByte b pins AddressAwaited = phaseAfterAddress (isAddressed pins b) b
+phaseAfterByte b pins Ignoring = Ignoring
+phaseAfterByte b pins ControlAwaited = phaseAfterControl b
+phaseAfterByte b pins (OneByte rs) = ControlAwaited
+phaseAfterByte b pins (EndlessBytes rs) = EndlessBytes rs
+phaseAfterByte b pins Reading = Ignoring
+phaseAfterByte b pins ReadEnded = Ignoring
+
+abbrev pub phaseAfter : Event → ℕ → Phase → Phase
+phaseAfter (Byte b) pins p = phaseAfterByte b pins p
+phaseAfter Start pins p = AddressAwaited
+phaseAfter Stop pins p = Idle
+phaseAfter ReadAcknowledged pins p = p
+phaseAfter ReadNotAcknowledged pins p = phaseAfterLastRead p
+phaseAfter Reset pins p = Idle
+phaseAfter (Sensor v) pins p = p
+phaseAfter Unlisted pins p = p
 
 -- ---- a chip alone
 
@@ -97,9 +119,6 @@ module _ (e k n : ℕ) (d : Device) where
   pub not-missed : misses e k d ≡ false → heardBy e k n d ≡ applied (eventOf e) (alone n d)
   unfolding heardBy
   not-missed m = rw m
-
-  pub device-missed : misses e k d ≡ true → deviceAfter e k n d ≡ d
-  device-missed m = rw (missed m)
 
   -- the phase after an event, by the event, the pins and the phase
   pub device-phase : deviceAfter e k n d .chip .phase ≡ phaseAfter (eventOf e) (d .chip .pins) (d .chip .phase)

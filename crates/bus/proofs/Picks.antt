@@ -4,12 +4,13 @@ use mathlib.Core.List.{List, [], _∷_, map}
 use mathlib.Core.Path.{_≡_, refl, sym, ap, _∙_}
 use Prim.Native.Nat.{ℕ, zero, suc, _<_}
 use native.Mathlib.Nat.{le-of-suc-le-suc, not-suc-le-zero}
-use borrow.Author.Tests.{eqb-true}
+use borrow.Author.Tests.{eqb-true, eq-eqb}
 use lib.Dec.{eqb}
 use lib.ListN.{length, length-map}
 use Rattle.registers.proofs.Below.{false-true}
 use Rattle.bus.specs.Bus.{Device, At, hasPins}
 use Rattle.bus.specs.Streams.{deviceWith, isOn, noDevice, deviceAt}
+use Rattle.bus.proofs.Every.{or-left, or-right}
 
 abbrev pub KeepsPins : (Device → Device) → Type 0
 KeepsPins h = (d : Device) → h d .chip .pins ≡ d .chip .pins
@@ -25,6 +26,12 @@ pub record Picks (On : List Device → Type 0) (pick : List Device → Device) :
 module _ (p : ℕ) where
   abbrev pub OnBus : List Device → Type 0
   OnBus ds = isOn p ds ≡ true
+
+  -- a device with these pins anywhere is one that is found
+  pub found : (ds : List Device) (i : ℕ) (d : Device) → At i d ds → d .chip .pins ≡ p → OnBus ds
+  found [] i d a e = absurd a
+  found (x ∷ ds) zero d a e = or-left _ _ (eq-eqb _ _ (ap (λ (y : Device). y .chip .pins) a ∙ e))
+  found (x ∷ ds) (suc i) d a e = or-right (hasPins p x) _ (found ds i d a e)
 
   with-stands : (ds : List Device) → OnBus ds → (i : ℕ) × At i (deviceWith p ds) ds
   with-stands [] on = absurd (false-true on)

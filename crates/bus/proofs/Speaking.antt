@@ -10,7 +10,7 @@ use lib.Dec.{eqb}
 use Rattle.registers.specs.declared.Phase.{Phase}
 use Rattle.registers.specs.declared.Phase.the-variants.{Idle, AddressAwaited, Ignoring, ControlAwaited, OneByte, EndlessBytes, Reading, ReadEnded}
 use Rattle.registers.specs.State.{State}
-use Rattle.registers.proofs.Below.{false-true}
+use Rattle.registers.proofs.Below.{false-true, true-false}
 use Rattle.phases.specs.Changes.{readByte}
 use Rattle.phases.specs.Phases.{isAddressed, isReading}
 use Rattle.engine.specs.declared.answer.Answer.{Answer}
@@ -142,7 +142,7 @@ module _ (e k n : ℕ) where
 -- ---- a byte
 
 -- the answers to a byte
-abbrev ToByte : Answer → Type 0
+abbrev pub ToByte : Answer → Type 0
 ToByte (Refused n) = ⊥
 ToByte Nothing = ⊥
 ToByte Acknowledged = Unit
@@ -176,6 +176,24 @@ acknowledged-or NotAcknowledged r t = refl
 acknowledged-or (Command c) r t = refl
 acknowledged-or (Read b) r t = absurd t
 
+or-to-byte : (a r : Answer) → ToByte a → ToByte r → ToByte (orElse a r)
+or-to-byte (Refused n) r t u = absurd t
+or-to-byte Nothing r t u = absurd t
+or-to-byte Acknowledged r t u = tt
+or-to-byte NotAcknowledged r t u = u
+or-to-byte (Command c) r t u = tt
+or-to-byte (Read b) r t u = absurd t
+
+-- of the answers to a byte one is no acknowledge
+pub no-acknowledge : (a : Answer) → ToByte a → isAcknowledged a ≡ false → a ≡ NotAcknowledged
+unfolding isAcknowledged
+no-acknowledge (Refused n) t q = absurd t
+no-acknowledge Nothing t q = absurd t
+no-acknowledge Acknowledged t q = absurd (true-false q)
+no-acknowledge NotAcknowledged t q = refl
+no-acknowledge (Command c) t q = absurd (true-false q)
+no-acknowledge (Read b) t q = absurd t
+
 module _ (e k n : ℕ) (byte : e < 256) where
   pub heard-byte : (d : Device) → heardBy e k n d ≡ onByte (d .chip .phase) e (alone n d)
   unfolding applied
@@ -194,6 +212,13 @@ module _ (e k n : ℕ) (byte : e < 256) where
           → isAcknowledged (heardBy e k n x .answer) || isAcknowledged (answerOf e k n ds) ≡ true
       go zero a rest = or-left _ _ (ap (λ (y : Device). isAcknowledged (heardBy e k n y .answer)) a ∙ t)
       go (suc j) a rest = or-right (isAcknowledged (heardBy e k n x .answer)) _ (rest j a)
+
+  -- the bus answers a byte as a chip does
+  pub to-byte : (ds : List Device) → ToByte (answerOf e k n ds)
+  to-byte [] = rw (byte-event e byte) tt
+  to-byte (d ∷ ds) =
+      or-to-byte (heardBy e k n d .answer) (answerOf e k n ds)
+      (subst (λ (y : After). ToByte (y .answer)) (sym (heard-byte d)) (byte-answer (d .chip .phase) e (alone n d))) (to-byte ds)
 
   -- what is heard of a byte where no chip takes it
   pub none-acknowledges : isAcknowledged (unanswered (eventOf e)) ≡ false

@@ -21,12 +21,11 @@ use Rattle.chip.specs.Plays.{writeAddress}
 use Rattle.bus.specs.Apart.{Turn, afterByte, turnAfter, turnOf, turnAt}
 use Rattle.bus.specs.Apart.Turn.{address, data-byte, other}
 use Rattle.bus.specs.Bus.{Device, At, isPastPhase, isPast}
-use Rattle.bus.specs.Phases.{phaseAfterByte, phaseAfter}
 use Rattle.bus.specs.Refusals.{isSensorReading, sentRefusal, BusFit}
 use Rattle.bus.specs.Streams.{deviceWith, isOn}
 use Rattle.bus.specs.When.{AllIn, OthersIgnore}
 use Rattle.bus.proofs.Every.{at-same}
-use Rattle.bus.proofs.Phases.{reading-is-sensor}
+use Rattle.bus.proofs.Phases.{phaseAfterByte, phaseAfter, reading-is-sensor}
 use Rattle.bus.proofs.Picks.{by-pins, with-pins, with-none}
 use Rattle.bus.proofs.Refusals.{sound-fit}
 
@@ -94,16 +93,6 @@ refused-turn e k n r p t h = go (isListedEvent e) (isSensorReading e) (ltb 3 k) 
     go true true false false el es ef h = absurd (suc-ne-zero r (sym h))
     go true false high true el es ef h = inr (eqb-true n (2 ^ 64 - 1) ef)
     go true false high false el es ef h = absurd (suc-ne-zero r (sym h))
-
--- nothing is accepted once the count is full
-pub full-refused : (e k : ℕ) → sentRefusal e k (2 ^ 64 - 1) ≡ 0 → ⊥
-unfolding sentRefusal
-full-refused e k h = go (isListedEvent e) (isSensorReading e && ltb 3 k) h
-  where
-    go : (l s : Bool) → refuse (not l) 3 then refuse s 13 then refuse (eqb (2 ^ 64 - 1) (2 ^ 64 - 1)) 4 ≡ 0 → ⊥
-    go false s h = suc-ne-zero 2 h
-    go true true h = suc-ne-zero 12 h
-    go true false h = suc-ne-zero 3 h
 
 -- two bytes are refused alike
 pub bytes-refused : (b c k l n : ℕ) → b < 256 → c < 256 → sentRefusal b k n ≡ sentRefusal c l n

@@ -19,7 +19,7 @@ use Rattle.display.specs.Display.{storedOf, placeOf, columnOf}
 use Rattle.phases.specs.Changes.{readByte, pulsed, sensed}
 use Rattle.phases.specs.Phases.{isAddressed}
 use Rattle.engine.specs.declared.answer.Answer.{Answer}
-use Rattle.engine.specs.declared.answer.Answer.the-variants.{Acknowledged, Read}
+use Rattle.engine.specs.declared.answer.Answer.the-variants.{Nothing, Acknowledged, Read}
 use Rattle.engine.specs.Event.{eventOf, numberOf}
 use Rattle.engine.specs.Step.{acknowledge, onByte, applied}
 use Rattle.chip.specs.When.{ListedEvent}
@@ -75,6 +75,11 @@ first-does-not-acknowledge-alone q = let z = ap numberOf q in omega arith
 pub last-does-not-acknowledge-alone : answerOf 120 0 1 awaiting ≡ byLast 120 0 1 awaiting → ⊥
 unfolding heardBy applied acknowledge isAddressed
 last-does-not-acknowledge-alone q = let z = ap numberOf q in omega arith
+
+-- 124 is the address of neither: that is no acknowledge, and not nothing
+pub unacknowledged-is-not-nothing : answerOf 124 0 1 awaiting ≡ Nothing → ⊥
+unfolding heardBy applied acknowledge isAddressed
+unacknowledged-is-not-nothing q = let z = ap numberOf q in omega arith
 
 -- a read gives the reading chip's 5: not what the first chip puts, nor that with the 255 of the others by OR
 pub first-is-not-read : answerOf 258 0 1 reading ≡ byFirst 258 0 1 reading → ⊥

@@ -1,7 +1,7 @@
 -- Which bytes of a stream are data sent to one chip's write address, by the events alone; streams that differ in those at most; buses that
 -- differ in that chip at most.
-use mathlib.Core.Bool.{cond}
-use mathlib.Core.List.{List, [], _∷_}
+use mathlib.Core.Bool.{Bool, true, false, cond}
+use mathlib.Core.List.{List, [], _∷_, map}
 use mathlib.Core.Path.{_≡_}
 use Prim.Native.Nat.{ℕ, _<_}
 use lib.Dec.{eqb}
@@ -13,7 +13,7 @@ use Rattle.engine.specs.declared.event.Event.the-variants.{Byte, Start, Stop, R
 use Rattle.engine.specs.Event.{eventOf}
 use Rattle.chip.specs.Plays.{writeAddress}
 use Rattle.bus.specs.Bus.{Device, Bus}
-use Rattle.bus.specs.Streams.{Sent, deviceWith, deviceAt}
+use Rattle.bus.specs.Streams.{Sent, sent, deviceWith, deviceAt}
 
 -- ---- what the next byte is
 
@@ -66,6 +66,27 @@ AllAlike p t [] [] = Unit
 AllAlike p t [] (y ∷ ys) = ⊥
 AllAlike p t (x ∷ xs) [] = ⊥
 AllAlike p t (x ∷ xs) (y ∷ ys) = Alike t x y × AllAlike p (turnAfter p (eventOf (x .event)) t) xs ys
+
+-- as many bytes on either side
+abbrev pub SameBytes : List ℕ → List ℕ → Type 0
+SameBytes [] [] = Unit
+SameBytes [] (y ∷ ys) = ⊥
+SameBytes (x ∷ xs) [] = ⊥
+SameBytes (x ∷ xs) (y ∷ ys) = (x < 256) × (y < 256) × SameBytes xs ys
+
+abbrev pub bytesSent : List ℕ → List Sent
+bytesSent bs = map (λ (b : ℕ). sent b 0) bs
+
+-- past its write address
+abbrev pub writtenTo : Phase → Bool
+writtenTo Idle = false
+writtenTo AddressAwaited = false
+writtenTo Ignoring = false
+writtenTo ControlAwaited = true
+writtenTo (OneByte rs) = true
+writtenTo (EndlessBytes rs) = true
+writtenTo Reading = false
+writtenTo ReadEnded = false
 
 -- ---- buses that are the same but for the chip with pins p
 

@@ -2,7 +2,6 @@ pub mod Answers
 pub mod Apart
 pub mod Bus
 pub mod LastWriter
-pub mod Phases
 pub mod Plays
 pub mod Reach
 pub mod Refusals

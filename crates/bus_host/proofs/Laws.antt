@@ -3,7 +3,7 @@ use mathlib.Core.Bool.{Bool, true, false, not, _&&_}
 use mathlib.Core.List.{List, map}
 use mathlib.Core.Logic.{_↔_}
 use mathlib.Core.Path.{_≡_, refl, sym, ap, _∙_}
-use Prim.Native.Nat.{ℕ, zero, suc, _-_, _^_, _≤_, _<_}
+use Prim.Native.Nat.{ℕ, zero, suc, _-_, _^_, _≤_, _<_, _+_}
 use native.Mathlib.Omega.{arith}
 use borrow.Author.Tests.{ne-eqb, lt-leb}
 use lib.Dec.{eqb, ltb}
@@ -143,3 +143,11 @@ module _ (e k : ℕ) (ls : List Lent) (n : ℕ) where
           → (busCallRefusal e k ls n ≡ 0) × Somewhere (Acknowledges e n) (map deviceIn ls)
       there zero q h = (q, by-some (bus-accepts q) .0 (sym (told q) ∙ h))
       there (suc x) q h = absurd (false-true (sym (refusal-tells-none (suc x) (rw q at refusal-small)) ∙ sym (ap tellsAcknowledge (given x q)) ∙ h))
+
+  -- a byte that is not refused, and that no chip acknowledges, gives 258
+  pub not-acknowledged : e < 256 → busCallRefusal e k ls n ≡ 0 → (Somewhere (Acknowledges e n) (map deviceIn ls) → ⊥) → busCall e k ls n .number ≡ 258
+  not-acknowledged byte q none = answered q ∙ ap numberOf (by-bus.not-acknowledged e k (bus (map deviceIn ls) n) (bus-accepts q) byte none)
+
+  -- a call that is not refused adds 1 to the count
+  pub bus-adds : busCallRefusal e k ls n ≡ 0 → busCall e k ls n .count ≡ n + 1
+  bus-adds q = ap (λ (c : Called). c .count) (bus-accepted q) ∙ by-bus.count-law e k (bus (map deviceIn ls) n) (bus-accepts q)
