@@ -5,13 +5,20 @@
 static struct messages *made;
 static size_t wanted;
 
+static void put(uint64_t event, uint64_t pins, uint64_t refusal)
+{
+    if (made->length < wanted)
+        made->sent[made->length++] = (struct sent) { (uint16_t)event, pins, refusal };
+}
+
 /* The number beside an event that is no sensor reading can be anything. */
 static void add(uint64_t event)
 {
-    if (made->length == wanted)
-        return;
-    uint64_t pins = event >= SENSOR ? below(4) : odd_pins[below(ODD_PINS)];
-    made->sent[made->length++] = (struct sent) { (uint16_t)event, pins };
+    if (below(40) == 0)
+        put(unlisted_event(), odd_pins[below(ODD_PINS)], BAD_EVENT);
+    if (below(40) == 0)
+        put(SENSOR + below(256), below(2) ? 4 + below(300) : UINT64_MAX - below(300), BAD_PINS);
+    put(event, event >= SENSOR ? below(4) : odd_pins[below(ODD_PINS)], 0);
 }
 
 /* One of the four chips, now and then no chip at all. */

@@ -9,27 +9,23 @@ static struct messages messages;
 
 /* ---- Traffic ----------------------------------------------------------------------------- */
 
-static void play(struct bus_state *end)
+static void play(void)
 {
-    for (size_t i = 0; i < messages.length; i++)
-        compare_bus(messages.sent[i].event, messages.sent[i].pins);
-    bus_save(end);
+    for (size_t i = 0; i < messages.length; i++) {
+        const struct sent *sent = &messages.sent[i];
+        if (sent->refusal != 0)
+            expect_bus(sent->event, sent->pins, sent->refusal);
+        else if (compare_bus(sent->event, sent->pins) < NOTHING)
+            fail("event %zu of the traffic is refused", i);
+    }
 }
 
-/* Now and then an event that is none comes in between, or a reading for no chip. */
 static void try_traffic(unsigned standing, size_t events)
 {
     bus_lend_usual();
     random_bus(standing);
     make_messages(&messages, events);
-    for (size_t i = 0; i < messages.length; i++) {
-        if (below(200) == 0)
-            expect_bus(unlisted_event(), below(4), BAD_EVENT);
-        if (below(200) == 0)
-            expect_bus((uint16_t)(SENSOR + below(256)), 4 + below(300), BAD_PINS);
-        if (compare_bus(messages.sent[i].event, messages.sent[i].pins) < NOTHING)
-            fail("event %zu of the traffic is refused", i);
-    }
+    play();
 }
 
 void test_traffic(void)
@@ -42,17 +38,29 @@ void test_traffic(void)
 
 /* ---- Alone ------------------------------------------------------------------------------- */
 
-/* The chip by itself, event by event. A reading for another chip does not come to it, but is counted. */
-static void play_alone(struct chip_state *chip, uint64_t count)
+/* An event that is none is refused by the chip alone, too. */
+static void give_alone(struct chip_state *chip, uint64_t *count, const struct sent *sent)
+{
+    uint64_t result = pcf8820_step(chip->record, RECORD_LEN, chip->memory, PLACES, chip->writers,
+                                   PLACES, count, sent->event);
+    if (sent->refusal != 0 ? result != sent->refusal : result < NOTHING)
+        fail("a chip alone gives %llu for event %u", (unsigned long long)result, sent->event);
+}
+
+/* The chip by itself, event by event. A reading for another chip does not come to it, but is counted;
+ * one for no chip is not. Gives the count at the end. */
+static uint64_t play_alone(struct chip_state *chip, uint64_t count)
 {
     for (size_t i = 0; i < messages.length; i++) {
         const struct sent *sent = &messages.sent[i];
-        if (sent->event >= SENSOR && sent->pins != chip->record[W_PINS])
+        if (sent->refusal == BAD_PINS)
+            continue;
+        if (sent->refusal == 0 && sent->event >= SENSOR && sent->pins != chip->record[W_PINS])
             count++;
-        else if (pcf8820_step(chip->record, RECORD_LEN, chip->memory, PLACES, chip->writers, PLACES,
-                              &count, sent->event) < NOTHING)
-            fail("a chip alone refuses event %zu", i);
+        else
+            give_alone(chip, &count, sent);
     }
+    return count;
 }
 
 static void try_alone(unsigned standing, size_t events)
@@ -62,9 +70,11 @@ static void try_alone(unsigned standing, size_t events)
     random_bus(standing);
     bus_save(&alone);
     make_messages(&messages, events);
-    play(&together);
+    play();
+    bus_save(&together);
     for (size_t c = 0; c < CHIPS; c++) {
-        play_alone(&alone.chip[c], alone.count);
+        if (play_alone(&alone.chip[c], alone.count) != together.count)
+            fail("the bus counts other than chip %zu alone", c);
         if (!equal_chips(&alone.chip[c], &together.chip[c]))
             fail("chip %zu is another on the bus than alone", c);
     }
@@ -122,10 +132,12 @@ static bool try_apart(unsigned standing, uint64_t pins, size_t events)
     size_t chip = chip_of(pins);
     bus_save(&before);
     make_messages(&messages, events);
-    play(&first);
+    play();
+    bus_save(&first);
     bus_restore(&before);
     change_data(pins);
-    play(&second);
+    play();
+    bus_save(&second);
     for (size_t c = 0; c < CHIPS; c++)
         if (c != chip && !equal_chips(&first.chip[c], &second.chip[c]))
             fail("other data for chip %zu changed chip %zu", chip, c);
