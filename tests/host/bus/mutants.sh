@@ -162,7 +162,7 @@ mutant 'write past a memory' 's/\*count += 1;/& memory2[PLACES] = 0;/'
 mutant 'write before the writers' 's/\*count += 1;/& writers3[-1] = 0;/'
 mutant 'write past a record' 's/\*count += 1;/& record0[WORDS] = 0;/'
 mutant 'read past a record' 's/\*count += 1;/& (void)*(volatile const uint64_t *)(record1 + WORDS);/'
-for number in 12 3 13 4; do
+for number in 1 2 12 3 13 4; do
     mutant "record changed at refusal $number" \
         "s/^        return refusal;/        return refusal == $number ? record2[LAST_RS] ^= 1, refusal : refusal;/"
     mutant "memory changed at refusal $number" \
