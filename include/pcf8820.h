@@ -283,10 +283,20 @@ uint64_t pcf8820_run(uint64_t *record, size_t record_len,
  *   4   the event count is 2^64 - 1
  *
  * A refused event changes none of the twelve buffers, nor the count. An accepted one leaves four chips
- * that 12 lets pass. */
+ * that 12 lets pass.
+ *
+ * The chips of a bus get their events through the bus alone. A host that calls pcf8820_step, pcf8820_run
+ * or pcf8820_reset for one of them, in the middle of a message above all, can leave phases that are not
+ * those of one bus. From then on every event of the bus is refused by 12, START and the reset pulse
+ * included. The way out is to make all four chips idle: by pcf8820_reset for each, with its own pins, or,
+ * to keep the registers, by PCF8820_PHASE_IDLE in word PCF8820_WORD_PHASE and 0 in word
+ * PCF8820_WORD_PHASE_RS of each record.
+ *
+ * There is no run for a bus: the host makes one call for each event. */
 
 /* Takes one event of the bus. The records, the memories and the count are changed in place. pins are
- * those of the chip that a sensor reading is for; for other events any number will do.
+ * those of the chip that a sensor reading is for, word 29 of its record, and not its place among the
+ * arguments or in an array; for other events any number will do.
  *
  * Gives
  *   1..4, 12, 13   refused, nothing changed
@@ -314,9 +324,10 @@ struct pcf8820_chip {
     size_t writers_len;
 };
 
-/* The same as pcf8820_bus_step, with the chips in an array. */
-static inline uint64_t pcf8820_bus(struct pcf8820_chip chips[4], uint64_t *count, uint16_t event,
-                                   uint64_t pins)
+/* The same as pcf8820_bus_step, with the chips in an array. const is the array alone: the buffers that
+ * it points to are changed. */
+static inline uint64_t pcf8820_bus(const struct pcf8820_chip chips[PCF8820_CHIPS], uint64_t *count,
+                                   uint16_t event, uint64_t pins)
 {
     return pcf8820_bus_step(
         chips[0].record, chips[0].record_len, chips[0].memory, chips[0].memory_len, chips[0].writers, chips[0].writers_len,
