@@ -1,0 +1,77 @@
+/* A host in C++. One of its four chips gets an event that the bus does not get; from then on the bus
+ * refuses every event, until all four are made idle in one of the two ways that the header tells. */
+#include "pcf8820.h"
+
+#include <cstdio>
+#include <cstdlib>
+
+static uint64_t records[PCF8820_CHIPS][PCF8820_RECORD_WORDS];
+static uint8_t memories[PCF8820_CHIPS][PCF8820_PLACES];
+static uint64_t writers[PCF8820_CHIPS][PCF8820_PLACES];
+static pcf8820_chip chips[PCF8820_CHIPS];
+static uint64_t count;
+
+static void expect(const char *what, uint64_t result, uint64_t right)
+{
+    if (result == right)
+        return;
+    std::fprintf(stderr, "C++ host: %s: %llu, and not %llu\n", what, (unsigned long long)result,
+                 (unsigned long long)right);
+    std::exit(1);
+}
+
+static void expect_on_bus(const char *what, uint16_t event, uint64_t right)
+{
+    uint64_t before = count;
+    expect(what, pcf8820_bus(chips, &count, event, 0), right);
+    expect("the count", count, right < PCF8820_ANSWER_NONE ? before : before + 1);
+}
+
+static void reset_all()
+{
+    for (uint64_t c = 0; c < PCF8820_CHIPS; c++)
+        expect("reset", pcf8820_reset(records[c], PCF8820_RECORD_WORDS, PCF8820_CHIPS - 1 - c),
+               PCF8820_DONE);
+}
+
+static void idle_all()
+{
+    for (int c = 0; c < PCF8820_CHIPS; c++) {
+        records[c][PCF8820_WORD_PHASE] = PCF8820_PHASE_IDLE;
+        records[c][PCF8820_WORD_PHASE_RS] = 0;
+    }
+}
+
+/* Ends in the middle of a write to the chip with pins 3, which is chip 0. */
+static void begin_message()
+{
+    expect_on_bus("START", PCF8820_EVENT_START, PCF8820_ANSWER_NONE);
+    expect_on_bus("address", 0x7E, PCF8820_ANSWER_ACKNOWLEDGED);
+    expect_on_bus("control", 0x40, PCF8820_ANSWER_ACKNOWLEDGED);
+}
+
+static void stop_chip(int c)
+{
+    expect("STOP for a chip alone",
+           pcf8820_step(chips[c].record, chips[c].record_len, chips[c].memory, chips[c].memory_len,
+                        chips[c].writers, chips[c].writers_len, &count, PCF8820_EVENT_STOP),
+           PCF8820_ANSWER_NONE);
+    expect_on_bus("START after it", PCF8820_EVENT_START, PCF8820_REFUSED_CHIPS);
+    expect_on_bus("reset pulse after it", PCF8820_EVENT_RESET, PCF8820_REFUSED_CHIPS);
+}
+
+int main()
+{
+    for (int c = 0; c < PCF8820_CHIPS; c++)
+        chips[c] = { records[c], PCF8820_RECORD_WORDS, memories[c], PCF8820_PLACES, writers[c], PCF8820_PLACES };
+    reset_all();
+    begin_message();
+    stop_chip(2);
+    idle_all();
+    begin_message();
+    stop_chip(0);
+    reset_all();
+    begin_message();
+    std::puts("C++ host: as the header says");
+    return 0;
+}
