@@ -6,8 +6,8 @@
  *
  * Build and run, from the project's root:
  *
- *   rt staticlib host && gcc -Iinclude examples/four_glasses.c target/staticlib/libhost.a -o target/example
- *   target/example
+ *   rt staticlib host && gcc -Iinclude examples/four_glasses.c target/staticlib/libhost.a -o target/four_glasses
+ *   target/four_glasses
  */
 #include "pcf8820.h"
 
@@ -23,6 +23,10 @@ static uint8_t memory[CHIPS][PLACES];
 static uint64_t writers[CHIPS][PLACES];
 static struct pcf8820_chip chips[CHIPS];
 static uint64_t count;
+
+/* How the pins of each chip are wired, in any order: no two chips of a bus may have the same. A chip is
+ * addressed by its pins; its place in the array is the host's own matter. */
+static const uint64_t pins[CHIPS] = { 3, 1, 0, 2 };
 
 /* What is sent to each chip, and how long it is. */
 static uint16_t events[CHIPS][MOST_EVENTS];
@@ -48,30 +52,43 @@ static uint64_t accepted(const char *call, uint64_t result)
     exit(1);
 }
 
-/* Chip n gets the pins n: no two chips of a bus may have the same. */
 static void put_on_the_bus(void)
 {
     for (int n = 0; n < CHIPS; n++) {
         chips[n] = (struct pcf8820_chip) { record[n], WORDS, memory[n], PLACES, writers[n], PLACES };
-        accepted("reset", pcf8820_reset(record[n], WORDS, (uint64_t)n));
+        accepted("reset", pcf8820_reset(record[n], WORDS, pins[n]));
     }
 }
 
-/* The events carry the address of the chip whose record the list is compiled for. */
+/* The events carry the address of the chip whose record the list is compiled for. The first event is
+ * START, the second the address byte: the address in its seven high bits, and 0, to write. */
 static void compile(int n)
 {
     uint64_t clocks, line;
-    accepted("compile", pcf8820_compile(record[n], WORDS, (const uint8_t *)drawings[n],
-                                        strlen(drawings[n]), events[n], MOST_EVENTS, &length[n],
-                                        &clocks, &line));
-    printf("chip %d: %llu events, address byte %u\n", n, (unsigned long long)length[n], events[n][1]);
+    uint64_t result = pcf8820_compile(record[n], WORDS, (const uint8_t *)drawings[n],
+                                      strlen(drawings[n]), events[n], MOST_EVENTS, &length[n],
+                                      &clocks, &line);
+    if (line != 0)
+        fprintf(stderr, "line %llu of the drawing for chip %d is bad\n", (unsigned long long)line, n);
+    if (result == PCF8820_REFUSED_SHORT_OUTPUT)
+        fprintf(stderr, "the drawing for chip %d needs %llu events\n", n, (unsigned long long)length[n]);
+    accepted("compile", result);
+    printf("chip %d: pins %llu, address %u, %llu events\n", n, (unsigned long long)pins[n],
+           events[n][1] / 2u, (unsigned long long)length[n]);
 }
 
-/* The last argument is for sensor readings, of which there are none here. */
+/* The last argument is for sensor readings, of which there are none here. A byte for an address that no
+ * chip has is not refused, but no chip acknowledges it, and nothing is drawn. */
 static void play(int n)
 {
-    for (uint64_t i = 0; i < length[n]; i++)
-        accepted("bus", pcf8820_bus(chips, &count, events[n][i], 0));
+    for (uint64_t i = 0; i < length[n]; i++) {
+        uint64_t answer = accepted("bus", pcf8820_bus(chips, &count, events[n][i], 0));
+        if (answer == PCF8820_ANSWER_NOT_ACKNOWLEDGED) {
+            fprintf(stderr, "bus: no chip acknowledges byte %u, event %llu\n", events[n][i],
+                    (unsigned long long)count);
+            exit(1);
+        }
+    }
 }
 
 static char shown(int n, uint64_t row, uint64_t column)
