@@ -1,4 +1,4 @@
--- Change at will the data bytes sent to one chip's write address, each keeping its place in the stream: the other chips come out the same.
+-- Two streams that differ only in data bytes for one chip, each in its place, leave the other chips alike.
 use mathlib.Core.Bool.{Bool, true, false}
 use mathlib.Core.List.{List, [], _∷_}
 use mathlib.Core.Logic.{_⊎_, inl, inr}

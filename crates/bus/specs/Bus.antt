@@ -128,10 +128,10 @@ abbrev pub pinsDiffer : List Device → Bool
 pinsDiffer [] = true
 pinsDiffer (d ∷ ds) = every (hasOtherPins (d .chip .pins)) ds && pinsDiffer ds
 
--- all ignoring but at most one past its address
+-- a message is on: each chip ignores it or is past its address in it, and no more than one is past
 abbrev pub onePast : List Device → Bool
 onePast ds = every (λ (d : Device). isIgnoring d || isPast d) ds && leb (howMany isPast ds) 1
 
--- all idle, all awaiting an address, or all ignoring but at most one past its address
+-- no message is on, an address is awaited by all, or a message is on
 abbrev pub phasesAgree : List Device → Bool
 phasesAgree ds = every isIdle ds || (every awaitsAddress ds || onePast ds)
