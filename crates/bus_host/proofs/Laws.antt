@@ -11,6 +11,7 @@ use Rattle.registers.specs.Refusals.{refuse, _then_, isListedEvent}
 use Rattle.registers.proofs.Below.{false-true}
 use Rattle.engine.specs.declared.answer.Answer.{Answer}
 use Rattle.engine.specs.Event.{numberOf, isAcknowledged}
+use Rattle.engine.proofs.Numbers.{NoRefusal, no-refusal-number, same-answer}
 use Rattle.bus.specs.Answers.{Acknowledges}
 use Rattle.bus.specs.Bus.{Bus, bus, Somewhere}
 use Rattle.bus.specs.Refusals.{devicesRefusal, isSensorReading, sentRefusal, busRefusal}
@@ -20,7 +21,7 @@ use Rattle.bus_host.specs.Buffers.{Lent, deviceIn, hasLengths, hasRecord
 use Rattle.bus_host.specs.BusCall.{Called, called, noRecordFor, afterBusStep, busCall, tellsAcknowledge}
 use Rattle.bus_host.specs.BusCall.{pinsWordsDiffer, phaseWordsAgree, lentRefusal, busCallRefusal}
 use Rattle.bus_host.proofs.Devices.{long-in, allowed-in, share-in, lent-back}
-use Rattle.bus_host.proofs.Numbers.{NoRefusal, no-refusal-number, same-answer, bus-answers, acknowledge-told}
+use Rattle.bus_host.proofs.Numbers.{bus-answers, acknowledge-told}
 
 -- ---- refusals
 

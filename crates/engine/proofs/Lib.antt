@@ -1,5 +1,6 @@
 pub mod Allowed
 pub mod Events
+pub mod Numbers
 pub mod Refusals
 pub mod Tallies
 pub mod CodeWays

@@ -18,16 +18,14 @@ use Rattle.engine.specs.Event.{numberOf, countsAs}
 use Rattle.chip.specs.Promised.{CommandAnswer, Unknown, OutOfRange, commandNumber}
 use Rattle.engine.specs.Step.{After, refusalOf, stepOf}
 use Rattle.engine.specs.Run.{runOf, tally}
+use Rattle.engine.proofs.Numbers.{NoRefusal, command-numbers, same-answer}
 use Rattle.chip.specs.Phases.{awaitsCommand}
 use Rattle.chip.specs.Runs.{tallyOver}
 use Rattle.chip.proofs.Laws.{refused, refusal-at-most, run-steps, run-tallies}
 use Rattle.record_words.specs.Words.{phaseNumber, bit, standsFor, wordsOf}
 use Rattle.host.specs.Calls.{noRecord, Stepped, Ran, ran, runCall}
 use Rattle.host.specs.Playing.{Buffers, buffers, stepOn, runOn, CommandAwaited, callsGiving, CountedByCalls}
-use Rattle.bus_host.proofs.Numbers.{NoRefusal, command-numbers}
-use Rattle.host.proofs.Steps.{same-number}
-use Rattle.host.proofs.Steps.{buffersOf, Stands, call-steps, step-answers, stays-standing, Accepted, call-runs}
-use Rattle.host.proofs.Steps.{no-record-ran}
+use Rattle.host.proofs.Steps.{buffersOf, Stands, call-steps, step-answers, stays-standing, Accepted, call-runs, no-record-ran}
 
 -- ---- the answers to commands
 
@@ -68,16 +66,7 @@ awaits-command s = go (s .chip .phase)
     go Reading t = absurd (false-true t)
     go ReadEnded t = absurd (false-true t)
 
--- the number of an answer tells a command's: every other answer to an accepted event has another number
-number-command : (x : Answer) (a : CommandAnswer) → NoRefusal x → numberOf x ≡ commandNumber a → x ≡ Command a
-number-command (Refused k) a n e = absurd n
-number-command Nothing a n e = absurd (omega (arith, e, command-numbers a .0))
-number-command Acknowledged a n e = absurd (omega (arith, e, command-numbers a .0))
-number-command NotAcknowledged a n e = absurd (omega (arith, e, command-numbers a .0))
-number-command (Command x) a n e = ap Command (same-number x a e)
-number-command (Read b) a n e = absurd (omega (arith, e, command-numbers a .1))
-
--- so its number tells what an answer counts as
+-- the number of an answer to an accepted event tells what it counts as
 counts-by-number : (k : CommandAnswer) (a : Answer) → NoRefusal a → countsAs k a ≡ cond (eqb (numberOf a) (commandNumber k)) 1 0
 counts-by-number k (Refused n) r = absurd r
 counts-by-number k Nothing r = rw (ne-eqb 256 (commandNumber k) (λ e. omega (arith, e, command-numbers k .0)))
@@ -119,7 +108,7 @@ module _ (e : ℕ) (s : State) (h : Stands s) where
       number = ap (λ (r : Stepped). r .number) (call-steps s h e)
 
       go : (k : ℕ) → refusalOf e s ≡ k → numberOf (stepOf e s .answer) ≡ commandNumber a → (refusalOf e s ≡ 0) × (stepOf e s .answer ≡ Command a)
-      go zero r q = (r, number-command (stepOf e s .answer) a (step-answers s h e r .answered) q)
+      go zero r q = (r, same-answer (stepOf e s .answer) (Command a) (step-answers s h e r .answered) tt q)
       go (suc k) r q =
           absurd (omega (arith, ap (λ (x : After). numberOf (x .answer)) (refused e s k r), q, command-numbers a .0, r, refusal-at-most e s))
 

@@ -20,6 +20,7 @@ use Rattle.compiler.specs.When.{NotRead}
 use Rattle.compiler.proofs.Laws.{two-exactly, exactly-when, demand-3-promised}
 use Rattle.engine.specs.Step.{Fit, eventRefusal, refusalOf, accepted, stepOf}
 use Rattle.engine.specs.Run.{runFrom, runOf, tally}
+use Rattle.engine.proofs.Numbers.{command-numbers}
 use Rattle.engine.proofs.Tallies.{tally-refused}
 use Rattle.chip.specs.Promised.{CommandAnswer, Unknown, OutOfRange, CommandWhen, commandNumber}
 use Rattle.engine.specs.declared.answer.Answer.the-variants.{Command}
@@ -32,9 +33,7 @@ use Rattle.host.specs.Compiling.{Compiled, compiled, compileCall}
 use Rattle.host.specs.Playing.{Buffers, stepOn, CommandAwaited, AnsweredAs, CountedByCalls, PlayedByCalls, DrawnByCalls, LastWriterByCalls}
 use Rattle.host.proofs.Refusals.{one-or-two, never-none, entry-of-none, entry-of-chip, refused-at-entry, refusal-of-chip}
 use Rattle.record_words.proofs.Laws.{words-chip-words, stands-allowed}
-use Rattle.bus_host.proofs.Numbers.{command-numbers}
-use Rattle.host.proofs.Steps.{buffersOf, as-buffers, as-stands}
-use Rattle.host.proofs.Steps.{no-record-stepped}
+use Rattle.host.proofs.Steps.{buffersOf, as-buffers, as-stands, no-record-stepped}
 use Rattle.host.proofs.Commands.{command-awaited, awaits-command, step-command-number, counted-stands, counted-none}
 use Rattle.host.proofs.Playing.{played-by-calls, last-writer-stands, last-writer-none}
 

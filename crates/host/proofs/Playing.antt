@@ -15,6 +15,7 @@ use Rattle.engine.specs.Event.{numberOf}
 use Rattle.chip.specs.Promised.{CommandAnswer, storedOf}
 use Rattle.engine.specs.Step.{After, refusalOf, stepOf}
 use Rattle.engine.specs.Run.{outcome, runOf}
+use Rattle.engine.proofs.Numbers.{no-refusal-number}
 use Rattle.chip.specs.LastWriter.{before, LastWriter}
 use Rattle.chip.specs.LastWriter as chip
 use Rattle.chip.specs.Phases.{awaitsData}
@@ -27,7 +28,6 @@ use Rattle.drawing.specs.Plain.{pictureOf, plainReading}
 use Rattle.record_words.specs.Words.{bit, standsFor, wordsOf}
 use Rattle.host.specs.Calls.{noRecord, Stepped, Ran, ran, afterRun, runFor, runCall}
 use Rattle.host.specs.Playing.{Buffers, buffers, stepOn, runOn, uponEvent, afterEvents, pictureIn, CommandAwaited, PlayedByCalls, StoredByCall, LastWriterByCalls}
-use Rattle.bus_host.proofs.Numbers.{no-refusal-number}
 use Rattle.host.proofs.Steps.{acknowledged-number, number-acknowledged}
 use Rattle.host.proofs.Steps.{buffersOf, Stands, call-steps, step-answers, Accepted, upon-event, after-events, call-runs}
 use Rattle.host.proofs.Steps.{no-record-ran}

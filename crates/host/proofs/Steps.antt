@@ -16,9 +16,10 @@ use Rattle.engine.specs.declared.answer.Answer.the-variants.{Refused, Nothing, 
 use Rattle.engine.specs.declared.event.Event.{Event}
 use Rattle.engine.specs.declared.event.Event.the-variants.{Byte, Start, Stop, ReadAcknowledged, ReadNotAcknowledged, Reset, Sensor, Unlisted}
 use Rattle.engine.specs.Event.{eventOf, numberOf, isAcknowledged}
-use Rattle.chip.specs.Promised.{CommandAnswer, Taken, Unknown, OutOfRange, commandNumber}
+use Rattle.chip.specs.Promised.{CommandAnswer}
 use Rattle.phases.specs.Changes.{controlled, pulsed, sensed}
 use Rattle.engine.specs.Step.{After, acknowledge, contentOf, onByte, applied, accepted, counted, refusalOf, stepOf}
+use Rattle.engine.proofs.Numbers.{NoRefusal}
 use Rattle.engine.proofs.Refusals.{accepts}
 use Rattle.chip.specs.LastWriter.{before}
 use Rattle.chip.specs.Plays.{played}
@@ -26,7 +27,6 @@ use Rattle.chip.proofs.Laws.{stays-fit}
 use Rattle.record_words.specs.Words.{STATUS, standsFor, chipOf, wordsOf}
 use Rattle.record_words.proofs.Laws.{words-chip-words, chip-words-chip, allowed-stands}
 use Rattle.record_words.proofs.Stands.{stands-at}
-use Rattle.bus_host.proofs.Numbers.{NoRefusal}
 use Rattle.host.specs.Calls.{afterStep, stepCall, runFor, runCall, noRecord, stepped, ran}
 use Rattle.host.specs.Playing.{Buffers, buffers, stepOn, runOn, uponEvent, afterEvents}
 
@@ -111,17 +111,6 @@ applied-sound Unlisted s v h = record { answered = tt; status-byte = h }
 step-sound : (e : ℕ) (s : State) → refusalOf e s ≡ 0 → s .chip .status ≤ 255 → Sound (stepOf e s)
 unfolding stepOf accepted
 step-sound e s r h = rw r (applied-sound (eventOf e) (counted s) (sensor-byte e) h)
-
-pub same-number : (a b : CommandAnswer) → commandNumber a ≡ commandNumber b → a ≡ b
-same-number Taken Taken e = refl
-same-number Taken Unknown e = absurd (omega (arith, e))
-same-number Taken OutOfRange e = absurd (omega (arith, e))
-same-number Unknown Taken e = absurd (omega (arith, e))
-same-number Unknown Unknown e = refl
-same-number Unknown OutOfRange e = absurd (omega (arith, e))
-same-number OutOfRange Taken e = absurd (omega (arith, e))
-same-number OutOfRange Unknown e = absurd (omega (arith, e))
-same-number OutOfRange OutOfRange e = refl
 
 -- an acknowledge that is not that of a command has 257, and an answer with 257 is an acknowledge
 pub acknowledged-number : (a : Answer) → isAcknowledged a ≡ true → ((x : CommandAnswer) → a ≡ Command x → ⊥) → numberOf a ≡ 257
