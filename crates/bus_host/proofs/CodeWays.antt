@@ -1,6 +1,6 @@
 -- Ways through the code of the host's call for a bus, over plain variables.
 use mathlib.Core.Bool.{Bool, true, false, cond, _&&_}
-use mathlib.Core.List.{List, map}
+use mathlib.Core.List.{List}
 use mathlib.Core.Path.{_≡_, refl, sym, ap, _∙_}
 use Prim.Native.Nat.{ℕ}
 use native.Mathlib.Omega.{arith}
@@ -18,8 +18,8 @@ use Rattle.record_words.specs.Words.{standsFor, chipOf, readOf, stored}
 use Rattle.record_words.proofs.Laws.{read-record-exactly, read-none-exactly, stored-over}
 use Rattle.bus_host.specs.declared.FourRead.{FourRead}
 use Rattle.bus_host.specs.declared.FourRead.the-variants.{Records, NoRecord}
-use Rattle.bus_host.specs.Buffers.{lent, fourLent, lentBy, hasLengths, hasRecord, everyLent, chipsOf, fourRead}
-use Rattle.bus_host.specs.BusCall.{called, noRecordFor, afterBusStep, busCall}
+use Rattle.bus_host.specs.Buffers.{lent, fourLent, hasLengths, chipsOf, fourRead}
+use Rattle.bus_host.specs.BusCall.{called, noRecordFor, busCall}
 
 -- ---- one record
 

@@ -6,11 +6,11 @@ use Prim.Native.Nat.{ℕ, _+_, _<_}
 use native.Mathlib.Omega.{arith}
 use lib.Dec.{eqb, leb, ltb}
 use lib.ListN.{getD}
-use Rattle.registers.proofs.Below.{allBelow, below-at, same, same-eq}
+use Rattle.registers.proofs.Below.{below-at, same, same-eq}
 use Rattle.bus.specs.Bus.{Device, every, howMany, isIdle, awaitsAddress, isIgnoring, isPast, hasOtherPins, pinsDiffer, phasesAgree}
 use Rattle.bus.specs.Bus.{isIdlePhase, isAwaitingPhase, isIgnoringPhase, isPastPhase}
 use Rattle.bus.specs.Refusals.{isLong, isAllowed, canShare}
-use Rattle.record_words.specs.Words.{PHASE, PHASE-RS, isSet, phaseOf, standsFor, chipOf}
+use Rattle.record_words.specs.Words.{PHASE, PHASE-RS, isSet, phaseOf, chipOf}
 use Rattle.record_words.proofs.Laws.{words-chip-words, stands-allowed}
 use Rattle.record_words.proofs.Stands.{stands-at}
 use Rattle.bus_host.specs.Buffers.{Lent, deviceIn, lentBy, hasLengths, hasRecord, everyLent, howManyLent}

@@ -15,7 +15,7 @@ use Rattle.engine.specs.Event.{eventOf}
 use Rattle.engine.specs.Step.{After, stepOf}
 use Rattle.bus.specs.Bus.{Device, Bus, bus, At, alone, every, isIdlePhase, isAwaitingPhase, isPastPhase, hasOtherPins, phasesAgree}
 use Rattle.bus.specs.Refusals.{isLong, devicesRefusalFor, devicesRefusal, isSensorReading, sentRefusal, busRefusal}
-use Rattle.bus.specs.Step.{misses, heardBy, deviceAfter, unanswered, orElse, answerOf, BusAfter, busAfter, busAccepted, unlessRefused, busStepOf}
+use Rattle.bus.specs.Step.{misses, heardBy, deviceAfter, unanswered, orElse, BusAfter, busAfter, busAccepted, unlessRefused, busStepOf}
 use Rattle.bus_step.specs.declared.Chips.{Chips}
 use Rattle.bus.proofs.Answers.{heard-as-alone}
 use Rattle.bus.proofs.Phases as Phases

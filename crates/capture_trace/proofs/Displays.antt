@@ -1,8 +1,8 @@
 -- The line of a display byte says where it is stored, and as what.
 use mathlib.Core.Bool.{Bool, true, false, cond}
-use mathlib.Core.List.{List, _∷_, _++_}
+use mathlib.Core.List.{_∷_, _++_}
 use mathlib.Core.Path.{_≡_, refl, sym, ap, subst, _∙_}
-use Prim.Native.Nat.{ℕ, _+_, _*_, _-_, _<_, _≤_}
+use Prim.Native.Nat.{ℕ, _+_, _-_, _<_, _≤_}
 use native.Mathlib.Omega.{arith}
 use lib.Dec.{T, eqb}
 use lib.ListN.{getD, length}
@@ -20,7 +20,7 @@ use Rattle.display.proofs.Address.{place-bound}
 use Rattle.engine.specs.declared.event.Event.{Event}
 use Rattle.engine.proofs.Events.{byte-event}
 use Rattle.chip.specs.Phases.{awaitsData}
-use Rattle.chip.specs.Promised.{After, refusalOf, stepOf}
+use Rattle.chip.specs.Promised.{After, refusalOf}
 use Rattle.chip.proofs.Laws.{exactly-when, display-law}
 use Rattle.event_words.specs.Words.{displayWords, byteWords, eventWords, whatOf}
 use Rattle.capture_trace.specs.Told.{DisplayTold}

@@ -1,11 +1,10 @@
 -- What is promised of a capture that is followed, in one place: read this file first, then specs/Done.antt and specs/Told.antt. The work stands in the
 -- files beside it.
 use mathlib.Core.Bool.{true}
-use mathlib.Core.List.{List, [], _∷_, _++_}
+use mathlib.Core.List.{List, []}
 use mathlib.Core.Logic.{⊎-elim}
 use mathlib.Core.Path.{_≡_, refl, sym, ap, _∙_, subst}
 use Prim.Native.Nat.{ℕ, _<_}
-use native.Mathlib.Omega.{arith}
 use Rattle.registers.specs.State.{State}
 use Rattle.print.specs.Chosen.{linesOf}
 use Rattle.chip.specs.Phases.{awaitsData}
@@ -15,7 +14,7 @@ use Rattle.capture.specs.Replay.{started}
 use Rattle.capture.specs.Where.{Lent, NoFirstLine, Replayed, StoppedAfter}
 use Rattle.capture.proofs.Courses.{Ended, all-replayed, refused-first, refused-after, ended}
 use Rattle.capture.proofs.Refusals.{by-lent}
-use Rattle.capture_trace.specs.Done.{DoneEvent, doneEvents, doneOf}
+use Rattle.capture_trace.specs.Done.{DoneEvent, doneOf}
 use Rattle.capture_trace.specs.Follow.{lineFor, tally, noneTallied, talliedOver}
 use Rattle.capture_trace.specs.Told.{linesInParts, talliedInParts, isNotAcknowledged, howMany, DisplayTold, Follows}
 use Rattle.capture_trace.proofs.Displays.{told}

@@ -10,7 +10,6 @@ use Rattle.registers.specs.State.{State}
 use Rattle.chip.specs.Promised.{Answer, Refused, Nothing, Acknowledged, NotAcknowledged, Command, Read, refusalOf, stepOf}
 use Rattle.engine.specs.Event.{isAcknowledged}
 use Rattle.chip.proofs.Laws.{exactly-when, count-law}
-use Rattle.capture_trace.specs.declared.tally.Tally.{Tally}
 use Rattle.capture_trace.specs.Done.{DoneEvent, doneEvent, doneUnless, doneEvents}
 use Rattle.capture_trace.specs.Follow.{answerTo, tally, noneTallied, oneMore, tallied, talliedOver}
 use Rattle.capture_trace.specs.Told.{isNotAcknowledged, howMany}

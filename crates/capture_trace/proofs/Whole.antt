@@ -15,17 +15,17 @@ use Rattle.text.specs.Text.{split, onFirst}
 use Rattle.text.proofs.Splitting.{split-some}
 use Rattle.chip.specs.Promised.{refusalOf, stepOf}
 use Rattle.capture_lines.specs.declared.LineSoFar.{LineSoFar}
-use Rattle.capture_lines.specs.declared.LineSoFar.the-variants.{First, Pins, Empty, Number, BadFirst, Bad}
+use Rattle.capture_lines.specs.declared.LineSoFar.the-variants.{First, Empty, Number, BadFirst, Bad}
 use Rattle.capture_lines.specs.Line.{newline}
 use Rattle.capture_lines.specs.SoFar.{withByte, withBytes, pinsIn, ofNumber, eventLine}
 use Rattle.capture_lines.proofs.Digits.{event-line-kept}
 use Rattle.capture_lines.proofs.Laws.{first-line}
 use Rattle.capture_lines.proofs.Pins.{with-bytes-one}
-use Rattle.capture.specs.Feeding.{Playing, playing, lineAfter, endedLine}
+use Rattle.capture.specs.Feeding.{Playing, playing, endedLine}
 use Rattle.capture.specs.Reading.{EventsRead, eventsOf, withEvent}
 use Rattle.capture.specs.Replay.{started}
 use Rattle.capture.proofs.Whole.{onto, IsFirst, first, pins, bad, all-first}
-use Rattle.capture_trace.specs.Done.{DoneEvent, doneEvent, doneUnless, doneEvents, doneWithPins, doneLines, doneAtEnd, doneInBytes}
+use Rattle.capture_trace.specs.Done.{DoneEvent, doneEvent, doneEvents, doneWithPins, doneLines, doneAtEnd, doneInBytes}
 use Rattle.capture_trace.proofs.CodeWays.{ended-number, done-number}
 
 -- ---- nothing is done of a refused capture

@@ -1,6 +1,6 @@
 -- What is made of the events that a capture does: a line for each of them, and how many bytes were acknowledged.
 use mathlib.Core.Bool.{Bool, true, false, cond}
-use mathlib.Core.List.{List, [], _∷_, _++_}
+use mathlib.Core.List.{List, [], _∷_}
 use Prim.Native.Nat.{ℕ, _+_, _-_, _^_}
 use lib.Dec.{ltb}
 use Rattle.registers.specs.declared.Chip.{Chip}

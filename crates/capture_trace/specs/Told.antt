@@ -9,7 +9,7 @@ use Rattle.text.specs.Text.{bytes}
 use Rattle.print.specs.Chosen.{linesOf}
 use Rattle.print.specs.Printed.{decimalOf}
 use Rattle.chip.specs.LastWriter.{before}
-use Rattle.chip.specs.Promised.{Answer, Refused, Nothing, Acknowledged, NotAcknowledged, Command, Read, isAcknowledged, stepOf}
+use Rattle.chip.specs.Promised.{Answer, Refused, Nothing, Acknowledged, NotAcknowledged, Command, Read, stepOf}
 use Rattle.capture.specs.Feeding.{Playing, feedOf}
 use Rattle.event_words.specs.Words.{whatOf}
 use Rattle.capture_trace.specs.declared.tally.Tally.{Tally}

@@ -4,7 +4,6 @@ ghost use Rattle.registers.specs.State.{state};
 ghost use Rattle.print.specs.Printed.{Wrote};
 ghost use Rattle.capture_lines.specs.declared.LineSoFar.the-variants.{Number};
 ghost use Rattle.capture.specs.Feeding.{playing, endedLine};
-ghost use Rattle.event_words.specs.Line.{eventLine};
 ghost use Rattle.capture_trace.specs.Done.{doneAtEnd};
 ghost use Rattle.capture_trace.specs.Follow.{toldLine, toldLines, talliedOver};
 use crate::tally::Tally;

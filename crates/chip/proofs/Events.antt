@@ -1,14 +1,14 @@
 -- What each kind of event does, where it is not refused; and that only command bytes are answered as commands.
 use mathlib.Core.Bool.{true, false, Bool}
 use mathlib.Core.Path.{_≡_, refl, ap, _∙_, sym, subst}
-use Prim.Native.Nat.{ℕ, _+_, _<_}
+use Prim.Native.Nat.{ℕ, _<_}
 use native.Mathlib.Decide.{decLt}
 use native.Mathlib.Omega.{arith}
 use lib.ListN.{set}
 use Rattle.registers.specs.declared.Phase.{Phase}
 use Rattle.registers.specs.declared.Phase.the-variants.{Idle, AddressAwaited, Ignoring, ControlAwaited, OneByte, EndlessBytes, Reading, ReadEnded}
 use Rattle.registers.specs.Record.{inPhase, withRegisters}
-use Rattle.registers.specs.State.{State, state}
+use Rattle.registers.specs.State.{State}
 use Rattle.registers.proofs.Below.{false-true, true-false}
 use Rattle.phases.specs.Phases.{phaseAfterContent}
 use Rattle.engine.specs.declared.event.Event.{Event}

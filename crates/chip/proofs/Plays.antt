@@ -16,7 +16,7 @@ use Rattle.registers.specs.State.{State}
 use Rattle.engine.specs.Run.{runOf, unlessStopped, runFrom}
 use Rattle.engine.specs.Event.{isAcknowledged}
 use Rattle.phases.specs.Changes.{controlled}
-use Rattle.engine.specs.Step.{accepted, counted, acknowledge}
+use Rattle.engine.specs.Step.{accepted, acknowledge}
 use Rattle.engine.proofs.Refusals.{fit-entry}
 use Rattle.phases.specs.Phases.{isAddressed, phaseAfterAddress}
 use Rattle.chip.specs.LastWriter.{before}

@@ -1,6 +1,6 @@
 -- Ways through the code, over plain variables: what is written line by line is the whole text.
 use mathlib.Core.List.{List, [], _∷_, _++_, append-assoc}
-use mathlib.Core.Path.{_≡_, refl, sym, ap, _∙_}
+use mathlib.Core.Path.{_≡_, refl, ap, _∙_}
 use Prim.Native.Nat.{ℕ, _≤_}
 use native.Mathlib.Omega.{arith}
 use denote.Enum.Declared.{tagOf}
@@ -13,7 +13,7 @@ use Rattle.registers.specs.Refusals.{recordRefusal}
 use Rattle.registers.proofs.NamePieces.{name-there}
 use Rattle.text.specs.Text.{bytes, split, join}
 use Rattle.print.specs.Chosen.{namedLine}
-use Rattle.print.specs.Printed.{top, Wrote, Output, wholeText}
+use Rattle.print.specs.Printed.{top, Wrote, wholeText}
 use Rattle.print.proofs.Writing.{wrote-then, wrote-three, wrote-same, wrote-length}
 use Rattle.capture.specs.declared.End.{End}
 use Rattle.capture.specs.declared.End.the-variants as ends

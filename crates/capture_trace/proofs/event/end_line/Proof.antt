@@ -1,6 +1,6 @@
 use Rattle.registers.specs.State.{state}
 use Rattle.capture_lines.specs.declared.LineSoFar.the-variants.{Number}
-use mathlib.Core.Path.{sym, _∙_, ap}
+use mathlib.Core.Path.{_∙_}
 use Rattle.capture_trace.proofs.CodeWays.{end-known, no-event, none-tallied, passed-told}
 use borrow.Author.Needs.{needs}
 use Rattle.capture_trace.proofs.event.end_line.Statement.{statement}

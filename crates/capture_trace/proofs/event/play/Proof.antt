@@ -1,5 +1,4 @@
 use native.Mathlib.Omega.{arith}
-use mathlib.Core.Path.{refl}
 use Rattle.capture_trace.proofs.CodeWays.{not-counted, is-counted, none-tallied, none-told, one-tallied, one-told}
 use borrow.Author.Needs.{needs}
 use Rattle.capture_trace.proofs.event.play.Statement.{statement}

@@ -1,4 +1,3 @@
-use mathlib.Core.Path.{ap}
 use borrow.Author.Needs.{needs}
 use Rattle.capture_trace.proofs.tally.Tally.without_acknowledge.Statement.{statement}
 use Rattle.capture_trace.proofs.tally.Tally.without_acknowledge.Tie as tie
