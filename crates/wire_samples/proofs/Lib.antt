@@ -1,0 +1,3 @@
+pub mod CodeWays
+pub mod Joined
+pub mod SoFar

@@ -1,0 +1,146 @@
+-- The loop over the samples: what holds after i of them, with n events stored, and what it comes to where it ends.
+use mathlib.Core.Bool.{true, false, cond}
+use mathlib.Core.List.{List, [], _∷_, _++_, append-nil, append-assoc}
+use mathlib.Core.Path.{_≡_, refl, sym, ap, _∙_}
+use Prim.Native.Nat.{ℕ, zero, suc, _+_, _-_, _≤_, _<_}
+use native.Mathlib.Nat.{add-zero, zero-add, sub-zero}
+use native.Mathlib.Numerals.{add-one}
+use native.Mathlib.Omega.{arith}
+use borrow.Author.Tests.{eq-eqb, ne-eqb, ltb-true}
+use lib.Dec.{eqb}
+use lib.ListN.{length, take, drop, getD, set, length-append, length-drop, drop-of-length-le}
+use lib.Seq.{sets, length-sets, take-suc, take-all, set-at, drop-cons}
+use Rattle.text.proofs.Finding.{drop-next}
+use Rattle.wire_samples.specs.declared.Wires.{Wires}
+use Rattle.wire_samples.specs.declared.Fed.{Fed}
+use Rattle.wire_samples.specs.declared.sample.Told.{Told}
+use Rattle.wire_samples.specs.declared.sample.Told.the-variants.{Nothing, Event}
+use Rattle.wire_samples.specs.declared.sample.Sampled.{Sampled}
+use Rattle.wire_samples.specs.Sample.{sampleOf, toldBy}
+use Rattle.wire_samples.specs.Feed.{afterSample, eventsAt, afterAll, eventsOf, fits, fitting, consuming, asMuchAsFits, answerOf, stored}
+use Rattle.wire_samples.proofs.Joined.{after-joined, events-joined}
+
+-- ---- what has room
+
+-- as many places are left as events are told
+pub fits-room : (t : Told) (room : ℕ) → fits t room ≡ true → length (toldBy t) ≤ room
+fits-room Nothing room h = omega arith
+fits-room (Event e) room h = omega (arith, ltb-true 0 room h)
+
+-- ---- one event more
+
+-- what is told goes behind the events that are stored
+pub one-stored :
+    (t : Told) (es out₀ : List ℕ) (n : ℕ) → n ≡ length es → n + length (toldBy t) ≤ length out₀
+    → sets (es ++ drop n out₀) n (toldBy t) ≡ (es ++ toldBy t) ++ drop (n + length (toldBy t)) out₀
+one-stored Nothing es out₀ n p h = rw (add-zero n, append-nil es)
+one-stored (Event e) es out₀ n p h =
+    rw (drop-cons out₀ n 0 (omega (arith, h))) (set-at es (getD out₀ n 0) (drop (suc n) out₀) e n (sym p))
+    ∙ sym (append-assoc es (e ∷ []) (drop (suc n) out₀))
+    ∙ ap (λ (k : ℕ). (es ++ (e ∷ [])) ++ drop k out₀) (sym (add-one n))
+
+abbrev fed : Wires → ℕ → ℕ → ℕ → Fed
+fed w i n q = record { wires = w; consumed = i; written = n; refusal = q }
+
+fed-same : {w w′ : Wires} {n n′ q q′ : ℕ} (i : ℕ) → w ≡ w′ → n ≡ n′ → q ≡ q′ → fed w i n q ≡ fed w′ i n′ q′
+fed-same i e f g = rw (e, f, g)
+
+-- ---- the loop
+
+module _ (w₀ : Wires) (ss out₀ : List ℕ) where
+  pub record SoFar (i n : ℕ) (w : Wires) (out : List ℕ) : Type 0 where
+    pub after : w ≡ afterAll w₀ (take i ss)
+    pub place : n ≡ length (eventsOf w₀ (take i ss))
+    pub buffer : out ≡ eventsOf w₀ (take i ss) ++ drop n out₀
+    pub room : n ≤ length out₀
+    pub left : fitting (length out₀) w₀ ss ≡ i + fitting (length out₀ - n) w (drop i ss)
+
+  pub begins : SoFar 0 0 w₀ out₀
+  unfolding afterAll eventsOf
+  begins =
+      record {
+        after = refl;
+        place = refl;
+        buffer = refl;
+        room = omega arith;
+        left = ap (λ (k : ℕ). fitting k w₀ ss) (sym (sub-zero (length out₀))) ∙ sym (zero-add _);
+      }
+
+  -- what the answer and the buffer are where the loop ends
+  pub record Ended (f : Fed) (out : List ℕ) : Type 0 where
+    pub answer : f ≡ answerOf (asMuchAsFits (length out₀) w₀ ss)
+    pub leaves : out ≡ stored (asMuchAsFits (length out₀) w₀ ss .events) out₀
+
+  module _ {i n : ℕ} {w : Wires} {out : List ℕ} (s : SoFar i n w out) where
+    pub same-length : length out ≡ length out₀
+    same-length =
+        omega (
+          arith,
+          ap length (s .buffer),
+          length-append (eventsOf w₀ (take i ss)) (drop n out₀),
+          length-drop n out₀,
+          s .place,
+          s .room,
+        )
+
+    ended : (q : ℕ) → fitting (length out₀) w₀ ss ≡ i → q ≡ cond (eqb i (length ss)) 0 15 → Ended (fed w i n q) out
+    ended q e h =
+        record {
+          answer = rw e (fed-same i (s .after) (s .place) h);
+          leaves = rw e (s .buffer ∙ ap (λ (k : ℕ). eventsOf w₀ (take i ss) ++ drop k out₀) (s .place));
+        }
+
+    -- all samples are consumed
+    pub all-read : i ≡ length ss → Ended (fed w i n 0) out
+    unfolding fitting
+    all-read e =
+        let past : length ss ≤ i = omega (arith, e) in
+        let none : fitting (length out₀ - n) w (drop i ss) ≡ 0 = rw (drop-of-length-le ss past) refl in
+        ended 0 (s .left ∙ omega (arith, none)) (rw (eq-eqb i (length ss) e) refl)
+
+    module _ (h : i < length ss) (r : Sampled) (e : r ≡ sampleOf w (getD ss i 0)) where
+      next : drop i ss ≡ getD ss i 0 ∷ drop (i + 1) ss
+      next = drop-next ss i h
+
+      one-more : take (i + 1) ss ≡ take i ss ++ (getD ss i 0 ∷ [])
+      one-more = ap (λ (k : ℕ). take k ss) (add-one i) ∙ take-suc ss i 0 h
+
+      -- the next event has no room
+      pub short : fits (r .told) (length out - n) ≡ false → Ended (fed w i n 15) out
+      unfolding fitting
+      short f =
+          let none : fitting (length out₀ - n) w (drop i ss) ≡ 0 = rw (next, ← e, ← same-length, f) refl in
+          ended 15 (s .left ∙ omega (arith, none)) (rw (ne-eqb i (length ss) (λ q. omega (arith, q, h))) refl)
+
+      module _ (f : fits (r .told) (length out - n) ≡ true) where
+        pub has-room : n + length (toldBy (r .told)) ≤ length out
+        has-room = omega (arith, fits-room (r .told) (length out - n) f, same-length, s .room)
+
+        goes-on : SoFar (i + 1) (n + length (toldBy (r .told))) (r .wires) (sets out n (toldBy (r .told)))
+        unfolding afterAll eventsOf fitting
+        goes-on =
+            let told : eventsAt w (getD ss i 0) ≡ toldBy (r .told) = ap (λ (x : Sampled). toldBy (x .told)) (sym e) in
+            let events : eventsOf w₀ (take (i + 1) ss) ≡ eventsOf w₀ (take i ss) ++ toldBy (r .told) =
+            ap (eventsOf w₀) one-more
+            ∙ events-joined w₀ (take i ss) (getD ss i 0 ∷ [])
+            ∙ rw (← s .after, append-nil (eventsAt w (getD ss i 0)), told) refl in
+            record {
+              after = ap (λ (x : Sampled). x .wires) e ∙ rw (s .after) (sym (after-joined w₀ (take i ss) (getD ss i 0 ∷ []))) ∙ sym (ap (afterAll w₀) one-more);
+              place = omega (arith, s .place, ap length events, length-append (eventsOf w₀ (take i ss)) (toldBy (r .told)));
+              buffer =
+                  ap (λ (l : List ℕ). sets l n (toldBy (r .told))) (s .buffer)
+                  ∙ one-stored (r .told) (eventsOf w₀ (take i ss)) out₀ n (s .place) (omega (arith, has-room, same-length))
+                  ∙ ap (λ (l : List ℕ). l ++ drop (n + length (toldBy (r .told))) out₀) (sym events);
+              room = omega (arith, has-room, same-length);
+              left =
+                  let fitted : fits (sampleOf w (getD ss i 0) .told) (length out₀ - n) ≡ true = rw (← e, ← same-length) f in
+                  let rest : Sampled → ℕ = λ x. suc (fitting (length out₀ - n - length (toldBy (x .told))) (x .wires) (drop (i + 1) ss)) in
+                  let one : fitting (length out₀ - n) w (drop i ss) ≡ rest r = rw (next, fitted) (ap rest (sym e)) in
+                  let same : length out₀ - n - length (toldBy (r .told)) ≡ length out₀ - (n + length (toldBy (r .told))) = omega arith in
+                  omega (arith, s .left, one, ap (λ (k : ℕ). fitting k (r .wires) (drop (i + 1) ss)) same);
+            }
+
+        pub put-on :
+            (n′ : ℕ) (out′ : List ℕ) → out′ ≡ sets out n (toldBy (r .told)) → n′ ≡ n + length (toldBy (r .told))
+            → (length out′ ≡ length out₀) × SoFar (i + 1) n′ (r .wires) out′
+        put-on n′ out′ p q = rw (p, q) (length-sets out n (toldBy (r .told)) ∙ same-length, goes-on)

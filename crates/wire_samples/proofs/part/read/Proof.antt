@@ -1,0 +1,96 @@
+use Rattle.wire_samples.proofs.SoFar.{SoFar, begins, short, has-room, put-on, all-read}
+use mathlib.Core.Path.{_≡_, refl, sym, _∙_}
+use native.Mathlib.Omega.{arith}
+use Prim.Native.Nat.{_-_, _≤_, _<_}
+use lib.ListN.{length}
+use borrow.Author.Needs.{needs}
+use borrow.Author.Tests.{not-true, not-false}
+use Rattle.wire_samples.proofs.part.read.Statement.{statement}
+use Rattle.wire_samples.proofs.part.read.Tie as tie
+
+abbrev Inv-loop : tie.InvT-loop
+Inv-loop samples events₀ now-wires₀ consumed₀ written₀ events now-wires consumed written =
+    (consumed ≤ length samples) × (length events ≡ length events₀) × SoFar now-wires₀ samples events₀ consumed written now-wires events
+
+abbrev μ-loop : tie.MeasureT-loop
+μ-loop samples events₀ now-wires₀ consumed₀ written₀ events now-wires consumed written = length samples - consumed
+
+loop-holds : tie.Need-loop-holds Inv-loop μ-loop
+loop-holds c = (search needs, refl, begins _ _ _)
+
+shared-slice-read-sample : tie.Need-shared-slice-read-sample Inv-loop μ-loop
+shared-slice-read-sample c = search needs
+
+sample-requires : tie.Need-sample-requires Inv-loop μ-loop
+sample-requires c κs = search needs
+
+sub-fits : tie.Need-sub-fits Inv-loop μ-loop
+sub-fits c = let at-head = c .before .before .before .loop .inv in omega (arith, at-head .1, at-head .2 .room)
+
+fits-requires : tie.Need-fits-requires Inv-loop μ-loop
+fits-requires c κs = search needs
+
+same-length : tie.Need-same-length Inv-loop μ-loop
+same-length c = search needs
+
+returns : tie.Need-returns Inv-loop μ-loop
+returns c =
+    let at-head = c .before .before .before .before .before .loop .inv in
+    let inside = c .before .before .before .before .loop-test .taken in
+    let sampled = c .before .before .sample .ensures in
+    let ended = short _ _ _ (at-head .2) inside _ sampled (sym (c .before .fits2 .ensures) ∙ not-true _ (c .if1 .taken)) in
+    (ended .answer, ended .leaves)
+
+put-requires : tie.Need-put-requires Inv-loop μ-loop
+put-requires c κs =
+    let at-head = c .before .before .before .before .before .before .loop .inv in
+    let inside = c .before .before .before .before .before .loop-test .taken in
+    let sampled = c .before .before .before .sample .ensures in
+    has-room _ _ _ (at-head .2) inside _ sampled (sym (c .before .before .fits2 .ensures) ∙ not-false _ (c .before .if1 .left))
+
+add-consumed : tie.Need-add-consumed Inv-loop μ-loop
+add-consumed c = search needs
+
+loop-less : tie.Need-loop-less Inv-loop μ-loop
+loop-less c = search needs
+
+loop-again : tie.Need-loop-again Inv-loop μ-loop
+loop-again c =
+    let fitted = c .before .before .before .before .before in
+    let sampled = fitted .before .before in
+    let test = sampled .before .before in
+    let at-head = test .before .loop .inv in
+    let put = c .before .before .before .put .ensures in
+    let goes =
+    put-on _ _ _ (at-head .2) (test .loop-test .taken) _ (sampled .sample .ensures)
+    (sym (fitted .before .fits2 .ensures) ∙ not-false _ (fitted .if1 .left)) _ _ (put .0) (put .1) in
+    (search needs, goes .0, goes .1)
+
+same-length-2 : tie.Need-same-length-2 Inv-loop μ-loop
+same-length-2 c = search needs
+
+returns-2 : tie.Need-returns-2 Inv-loop μ-loop
+returns-2 c =
+    let at-head = c .before .loop .inv in
+    let ended = all-read _ _ _ (at-head .2) (omega (arith, at-head .0, c .loop-test .left)) in
+    (ended .answer, ended .leaves)
+
+pub read-spec : {M : Type 1} → statement M
+read-spec =
+    tie.close
+    (tie.spec
+    Inv-loop
+    μ-loop
+    loop-holds
+    shared-slice-read-sample
+    sample-requires
+    sub-fits
+    fits-requires
+    same-length
+    returns
+    put-requires
+    add-consumed
+    loop-less
+    loop-again
+    same-length-2
+    returns-2)
