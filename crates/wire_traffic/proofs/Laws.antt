@@ -1,0 +1,69 @@
+-- What is promised of samples, in one place: read this file first. The work stands in the files beside it.
+use mathlib.Core.List.{List, [], _∷_, _++_}
+use mathlib.Core.Logic.{_↔_, _⊎_}
+use mathlib.Core.Path.{_≡_, refl, sym, ap, _∙_}
+use Prim.Native.Nat.{ℕ, zero, suc, _≤_, _<_}
+use native.Mathlib.Omega.{arith}
+use lib.ListN.{length, take, drop}
+use Rattle.wire_samples.specs.declared.Wires.{Wires}
+use Rattle.wire_samples.specs.Sample.{atStart}
+use Rattle.wire_samples.specs.Feed.{afterAll, eventsOf, Feed, consuming, refusalOf, feedOf}
+use Rattle.wire_traffic.specs.Calls.{goneOn, Call, Course, course, afterCalls, Part, joined, callsOf, Rooms}
+use Rattle.wire_traffic.specs.When.{Allowed, InRanges, Samples, need, When}
+use Rattle.wire_traffic.proofs.Cuts as Cuts
+use Rattle.wire_traffic.proofs.Ranges as Ranges
+use Rattle.wire_traffic.proofs.Rooms as Rooms
+
+-- ---- refusals
+
+module _ (room : ℕ) (w : Wires) (ss : List ℕ) where
+  -- each number comes exactly when the request says, 2, 14 and 15 in this order, and no other
+  pub exactly-when : (k : ℕ) → (feedOf room w ss .refusal ≡ k) ↔ When room w ss k
+  exactly-when = Rooms.exactly-when room w ss
+
+  -- 2 and 14 change nothing, and nothing is consumed
+  pub nothing-taken :
+      (k : ℕ) → refusalOf w ss ≡ suc k → feedOf room w ss ≡ record { wires = w; consumed = 0; events = []; refusal = suc k }
+  nothing-taken = Rooms.nothing-taken room w ss
+
+  -- 15: the buffer is full, and the first sample that was not consumed is the one whose event has no room
+  pub full : feedOf room w ss .refusal ≡ 15 → Rooms.Full room w ss (feedOf room w ss .consumed)
+  full = Rooms.full room w ss
+
+  -- with room all samples are consumed, and all their events told
+  pub with-room : Allowed w → Samples ss → need w ss ≤ room → feedOf room w ss ≡ consuming (length ss) w ss
+  with-room = Rooms.with-room room w ss
+
+-- ---- ranges
+
+pub start-in-ranges : InRanges atStart
+start-in-ranges = Ranges.start-in-ranges
+
+-- of every state that a call hands back, refused or not
+pub call-in-ranges : (room : ℕ) (w : Wires) → InRanges w → (ss : List ℕ) → InRanges (feedOf room w ss .wires)
+call-in-ranges = Ranges.call-in-ranges
+
+-- ---- parts
+
+-- cut anywhere, into any number of parts with room for their events: each call consumes its part, and the events and the wires are those of the whole
+pub in-parts :
+    (ps : List Part) (w : Wires) → InRanges w → Samples (joined ps) → Rooms w ps
+    → afterCalls (callsOf ps) (course w (joined ps) []) ≡ course (afterAll w (joined ps)) [] (eventsOf w (joined ps))
+in-parts ps w = Cuts.in-parts ps w []
+
+-- any calls, with buffers of any length, answered by 15 or not: what was told and what is left to tell are the events of the whole
+pub any-calls : (cs : List Call) (k : Course) → Cuts.Same k (afterCalls cs k)
+any-calls = Cuts.any-calls
+
+-- so that all is told where no sample is left
+pub all-told :
+    (cs : List Call) (w : Wires) (ss : List ℕ) → afterCalls cs (course w ss []) .left ≡ []
+    → afterCalls cs (course w ss []) ≡ course (afterAll w ss) [] (eventsOf w ss)
+all-told = Cuts.all-told
+
+-- going on with a fresh buffer where the first was short: as if there had been room
+pub resumed :
+    (room more all : ℕ) (w : Wires) (ss : List ℕ) → goneOn more (feedOf room w ss) ss .refusal ≡ 0 → feedOf all w ss .refusal ≡ 0
+    → (feedOf room w ss .events ++ goneOn more (feedOf room w ss) ss .events ≡ feedOf all w ss .events)
+    × (goneOn more (feedOf room w ss) ss .wires ≡ feedOf all w ss .wires)
+resumed = Cuts.resumed
