@@ -1,7 +1,7 @@
 -- The loop over the samples: what holds after i of them, with n events stored, and what it comes to where it ends.
 use mathlib.Core.Bool.{true, false, cond}
 use mathlib.Core.List.{List, [], _∷_, _++_, append-nil, append-assoc}
-use mathlib.Core.Path.{_≡_, refl, sym, ap, _∙_}
+use mathlib.Core.Path.{_≡_, refl, sym, ap, subst, _∙_}
 use Prim.Native.Nat.{ℕ, zero, suc, _+_, _-_, _≤_, _<_}
 use native.Mathlib.Nat.{add-zero, zero-add, sub-zero}
 use native.Mathlib.Numerals.{add-one}
@@ -91,12 +91,12 @@ module _ (w₀ : Wires) (ss out₀ : List ℕ) where
         }
 
     -- all samples are consumed
-    pub all-read : i ≡ length ss → Ended (fed w i n 0) out
+    pub all-read : i ≡ length ss → Ended (fed w (length ss) n 0) out
     unfolding fitting
     all-read e =
         let past : length ss ≤ i = omega (arith, e) in
         let none : fitting (length out₀ - n) w (drop i ss) ≡ 0 = rw (drop-of-length-le ss past) refl in
-        ended 0 (s .left ∙ omega (arith, none)) (rw (eq-eqb i (length ss) e) refl)
+        subst (λ (k : ℕ). Ended (fed w k n 0) out) e (ended 0 (s .left ∙ omega (arith, none)) (rw (eq-eqb i (length ss) e) refl))
 
     module _ (h : i < length ss) (r : Sampled) (e : r ≡ sampleOf w (getD ss i 0)) where
       next : drop i ss ≡ getD ss i 0 ∷ drop (i + 1) ss

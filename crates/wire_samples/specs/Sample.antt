@@ -36,7 +36,7 @@ anew w s st t = sampled (wires (w .unclear) s st 0 0) t
 
 -- no further than 2^64 - 1
 abbrev pub countedUp : ℕ → ℕ
-countedUp n = cond (ltb n 18446744073709551615) (n + 1) n
+countedUp n = cond (eqb n 18446744073709551615) n (n + 1)
 
 abbrev pub onUnclear : Wires → ℕ → Sampled
 onUnclear w s = sampled (wires (countedUp (w .unclear)) s Waiting 0 0) Nothing

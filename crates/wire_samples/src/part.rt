@@ -40,26 +40,27 @@ pub fn read(wires: Wires, samples: &[u8], events: &mut [u16]) -> Fed
         ≡ stored (asMuchAsFits (length (now (events .entry))) wires (now (samples .entry)) .events) (now (events .entry)) ⌝ }
 {
     let mut now_wires = wires;
-    let mut consumed = 0;
+    let mut at = 0;
     let mut written = 0;
-    while consumed < samples.len() {
-        let sampled = crate::sample::sample(now_wires, samples[consumed]);
+    while at < samples.len() {
+        let sampled = crate::sample::sample(now_wires, samples[at]);
         let told = sampled.told;
+        let behind = at + 1;
         if !fits(told, events.len() - written) {
             return Fed {
                 wires: now_wires,
-                consumed,
+                consumed: at,
                 written,
                 refusal: 15,
             };
         }
         written = put(told, events, written);
         now_wires = sampled.wires;
-        consumed += 1;
+        at = behind;
     }
     Fed {
         wires: now_wires,
-        consumed,
+        consumed: samples.len(),
         written,
         refusal: 0,
     }

@@ -49,7 +49,10 @@ fn anew(wires: Wires, sample: u8, stage: Stage, told: Told) -> Sampled
 fn counted_up(n: u64) -> u64
     ensures { λ r. ⌜ r ≡ countedUp n ⌝ }
 {
-    if n < u64::MAX { n + 1 } else { n }
+    if n == u64::MAX {
+        return n;
+    }
+    n + 1
 }
 
 fn on_unclear(wires: Wires, sample: u8) -> Sampled
@@ -106,11 +109,8 @@ fn in_message(stage: Stage) -> bool
 fn with_bit(value: u8, bit: bool) -> u8
     ensures { λ r. ⌜ r ≡ withBit value bit ⌝ }
 {
-    if bit {
-        value % 128 * 2 + 1
-    } else {
-        value % 128 * 2
-    }
+    let shifted = value % 128 * 2;
+    if bit { shifted + 1 } else { shifted }
 }
 
 // What the low bit of a first byte says of those that follow.

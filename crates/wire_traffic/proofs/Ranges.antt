@@ -4,8 +4,8 @@ use mathlib.Core.List.{List, [], _∷_}
 use mathlib.Core.Path.{_≡_, refl, sym, ap, subst, _∙_}
 use Prim.Native.Nat.{ℕ, zero, suc, _+_, _*_, _%_, _^_, _≤_, _<_}
 use native.Mathlib.Omega.{arith}
-use borrow.Author.Tests.{ltb-true, ltb-false}
-use lib.Dec.{ltb}
+use borrow.Author.Tests.{ltb-true, eqb-false}
+use lib.Dec.{eqb, ltb}
 use lib.ListN.{length, take, getD}
 use Rattle.wire_samples.specs.declared.Stage.{Stage}
 use Rattle.wire_samples.specs.declared.Stage.the-variants.{Outside, Waiting, First}
@@ -25,11 +25,11 @@ pub start-in-ranges : InRanges atStart
 start-in-ranges = record { unclear = omega arith; last = omega arith; bits = omega arith; value = omega arith }
 
 counted-in-range : (n : ℕ) → n < 2 ^ 64 → countedUp n < 2 ^ 64
-counted-in-range n h = go (ltb n 18446744073709551615) refl
+counted-in-range n h = go (eqb n 18446744073709551615) refl
   where
-    go : (t : Bool) → ltb n 18446744073709551615 ≡ t → cond t (n + 1) n < 2 ^ 64
-    go true e = omega (arith, ltb-true n 18446744073709551615 e)
-    go false e = h
+    go : (t : Bool) → eqb n 18446744073709551615 ≡ t → cond t n (n + 1) < 2 ^ 64
+    go true e = h
+    go false e = omega (arith, h, eqb-false n 18446744073709551615 e)
 
 with-bit-in-range : (v : ℕ) (b : Bool) → withBit v b ≤ 255
 with-bit-in-range v true = omega arith

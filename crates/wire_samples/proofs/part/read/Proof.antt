@@ -9,11 +9,11 @@ use Rattle.wire_samples.proofs.part.read.Statement.{statement}
 use Rattle.wire_samples.proofs.part.read.Tie as tie
 
 abbrev Inv-loop : tie.InvT-loop
-Inv-loop samples events₀ now-wires₀ consumed₀ written₀ events now-wires consumed written =
-    (consumed ≤ length samples) × (length events ≡ length events₀) × SoFar now-wires₀ samples events₀ consumed written now-wires events
+Inv-loop samples events₀ now-wires₀ at₀ written₀ events now-wires at written =
+    (at ≤ length samples) × (length events ≡ length events₀) × SoFar now-wires₀ samples events₀ at written now-wires events
 
 abbrev μ-loop : tie.MeasureT-loop
-μ-loop samples events₀ now-wires₀ consumed₀ written₀ events now-wires consumed written = length samples - consumed
+μ-loop samples events₀ now-wires₀ at₀ written₀ events now-wires at written = length samples - at
 
 loop-holds : tie.Need-loop-holds Inv-loop μ-loop
 loop-holds c = (search needs, refl, begins _ _ _)
@@ -23,6 +23,9 @@ shared-slice-read-sample c = search needs
 
 sample-requires : tie.Need-sample-requires Inv-loop μ-loop
 sample-requires c κs = search needs
+
+add-behind : tie.Need-add-behind Inv-loop μ-loop
+add-behind c = search needs
 
 sub-fits : tie.Need-sub-fits Inv-loop μ-loop
 sub-fits c = let at-head = c .before .before .before .loop .inv in omega (arith, at-head .1, at-head .2 .room)
@@ -47,9 +50,6 @@ put-requires c κs =
     let inside = c .before .before .before .before .before .loop-test .taken in
     let sampled = c .before .before .before .sample .ensures in
     has-room _ _ _ (at-head .2) inside _ sampled (sym (c .before .before .fits2 .ensures) ∙ not-false _ (c .before .if1 .left))
-
-add-consumed : tie.Need-add-consumed Inv-loop μ-loop
-add-consumed c = search needs
 
 loop-less : tie.Need-loop-less Inv-loop μ-loop
 loop-less c = search needs
@@ -84,12 +84,12 @@ read-spec =
     loop-holds
     shared-slice-read-sample
     sample-requires
+    add-behind
     sub-fits
     fits-requires
     same-length
     returns
     put-requires
-    add-consumed
     loop-less
     loop-again
     same-length-2

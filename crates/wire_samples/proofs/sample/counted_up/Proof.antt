@@ -1,4 +1,4 @@
-use borrow.Author.Tests.{lt-ltb, le-ltb}
+use borrow.Author.Tests.{eq-eqb, ne-eqb}
 use borrow.Author.Needs.{needs}
 use Rattle.wire_samples.proofs.sample.counted_up.Statement.{statement}
 use Rattle.wire_samples.proofs.sample.counted_up.Tie as tie
@@ -7,10 +7,10 @@ add-result : tie.Need-add-result
 add-result c = search needs
 
 returns : tie.Need-returns
-returns c = simp (lt-ltb _ _ (c .if1 .taken))
+returns c = simp (eq-eqb _ _ (c .if1 .taken))
 
 returns-2 : tie.Need-returns-2
-returns-2 c = simp (le-ltb _ _ (c .if1 .left))
+returns-2 c = simp (ne-eqb _ _ (c .if1 .left))
 
 pub counted-up-spec : {M : Type 1} → statement M
-counted-up-spec = tie.close (tie.spec add-result returns returns-2)
+counted-up-spec = tie.close (tie.spec returns add-result returns-2)

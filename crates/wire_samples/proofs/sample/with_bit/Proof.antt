@@ -2,14 +2,11 @@ use borrow.Author.Needs.{needs}
 use Rattle.wire_samples.proofs.sample.with_bit.Statement.{statement}
 use Rattle.wire_samples.proofs.sample.with_bit.Tie as tie
 
-mul-result : tie.Need-mul-result
-mul-result c = search needs
+mul-shifted : tie.Need-mul-shifted
+mul-shifted c = search needs
 
 add-result : tie.Need-add-result
 add-result c = search needs
-
-mul-result-2 : tie.Need-mul-result-2
-mul-result-2 c = search needs
 
 returns : tie.Need-returns
 returns c = simp (c .if1 .taken)
@@ -18,4 +15,4 @@ returns-2 : tie.Need-returns-2
 returns-2 c = simp (c .if1 .left)
 
 pub with-bit-spec : {M : Type 1} → statement M
-with-bit-spec = tie.close (tie.spec mul-result add-result mul-result-2 returns returns-2)
+with-bit-spec = tie.close (tie.spec mul-shifted add-result returns returns-2)
