@@ -1,4 +1,13 @@
+pub mod Carries
+pub mod Clean
 pub mod Cuts
+pub mod Events
 pub mod Laws
+pub mod OneSample
 pub mod Ranges
 pub mod Rooms
+pub mod RoundTrip
+pub mod Runs
+pub mod Stretched
+pub mod Told
+pub mod Worked
