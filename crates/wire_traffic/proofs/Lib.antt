@@ -11,3 +11,4 @@ pub mod Runs
 pub mod Stretched
 pub mod Told
 pub mod Worked
+pub mod Wrong
