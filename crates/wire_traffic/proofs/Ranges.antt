@@ -31,7 +31,7 @@ counted-in-range n h = go (eqb n 18446744073709551615) refl
     go true e = h
     go false e = omega (arith, h, eqb-false n 18446744073709551615 e)
 
-with-bit-in-range : (v : ℕ) (b : Bool) → withBit v b ≤ 255
+pub with-bit-in-range : (v : ℕ) (b : Bool) → withBit v b ≤ 255
 with-bit-in-range v true = omega arith
 with-bit-in-range v false = omega arith
 

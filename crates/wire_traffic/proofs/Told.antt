@@ -19,6 +19,7 @@ use Rattle.wire_samples.specs.Sample.{oneBitMore, byteDone, onBit, onSignal, sa
 use Rattle.wire_samples.specs.Feed.{afterSample, eventsOf}
 use Rattle.wire_traffic.specs.Traffic.{stageOnByte, canTell, stageTold, canBeTold}
 use Rattle.wire_traffic.proofs.Carries.{stage-after}
+use Rattle.wire_traffic.proofs.Ranges.{with-bit-in-range}
 use Rattle.wire_traffic.proofs.Events.{Next, is-start, is-stop, is-first, is-written, is-read, value-told}
 
 -- ---- the next event
@@ -61,10 +62,6 @@ data Goes (st : Stage) (r : Sampled) : Type 0 where
   nothing : r .told ≡ Nothing → Follows st (r .wires) → Goes st r
   event : (e : ℕ) → r .told ≡ Event e → Next e st → Follows (stageTold st e) (r .wires) → Goes st r
 
-value-bound : (v : ℕ) (b : Bool) → withBit v b ≤ 255
-value-bound v true = omega arith
-value-bound v false = omega arith
-
 byte-next :
     (st : Stage) (v : ℕ) (b : Bool) → inMessage st ≡ true → v ≤ 255
     → Next (eventOf st v b) st × (stageTold st (eventOf st v b) ≡ stageOnByte st v)
@@ -101,7 +98,7 @@ module _ (st : Stage) (w : Wires) (f : Follows st w) (s : ℕ) where
     where
       go : (t u : Bool) → inMessage (w .stage) ≡ t → Goes st (cond t (cond u (oneBitMore w s b) (byteDone w s b)) (quiet w s))
       go false u m = nothing refl (record { stage = f .stage; value = f .value })
-      go true true m = nothing refl (record { stage = f .stage; value = value-bound (w .value) b })
+      go true true m = nothing refl (record { stage = f .stage; value = with-bit-in-range (w .value) b })
       go true false m = done-goes b m (f .stage)
 
   sample-goes : Goes st (sampleOf w s)
