@@ -69,7 +69,7 @@
  * leaves it as it is. A host that begins with pcf8820_reset sets its count to 0 itself. Four chips on
  * one bus have one count.
  *
- * Refusals by the chip (those of the bus, of the glass and of drawing lists stand with their calls)
+ * Refusals by the chip (those of the bus, the glass, drawing lists and the wires stand with their calls)
  *
  *   1  the memory or the writers are not 1,717 long
  *   2  the record is not allowed
@@ -77,9 +77,10 @@
  *   4  the event count is 2^64 - 1
  *
  * Where more than one applies, the lowest is given; the bus and drawing lists have an order of their
- * own. A refused call changes no buffer that it is lent, with one exception: a run does the events
- * before its refused one, and these stand. The numbers that a call gives by pointer are results: they
- * are set in every case, refused or not. The count is none of them: it is handed in and back.
+ * own. A refused call changes no buffer that it is lent, with two exceptions: a run does the events
+ * before its refused one, and the wires give the events that there is room for; these stand. The
+ * numbers that a call gives by pointer are results: they are set in every case, refused or not. The
+ * count is none of them: it is handed in and back.
  *
  * Every length counts elements, not bytes. The buffers of one call, the count and the results with
  * them, must be valid for their length, aligned, and must not overlap; nothing more is asked of them.
@@ -100,7 +101,7 @@ extern "C" {
 
 /* How many: words of a record; places of a memory, which are columns times banks; chips on a bus; rows
  * of the glass; frames of a round, and bytes in the row buffer of pcf8820_pulse_row, which are columns
- * times frames; lines of a drawing list at most. */
+ * times frames; lines of a drawing list at most; words of a wire state. */
 enum pcf8820_size {
     PCF8820_RECORD_WORDS = 34,
     PCF8820_COLUMNS = 101,
@@ -110,7 +111,8 @@ enum pcf8820_size {
     PCF8820_ROWS = 67,
     PCF8820_FRAMES = 4,
     PCF8820_ROW_PULSES = 404,
-    PCF8820_MOST_LINES = 4096
+    PCF8820_MOST_LINES = 4096,
+    PCF8820_WIRE_WORDS = 5
 };
 
 /* Where the record has what. */
@@ -163,6 +165,30 @@ enum pcf8820_phase {
     PCF8820_PHASE_READ_ENDED = 7
 };
 
+/* The bits of a sample of the wires. */
+enum pcf8820_line {
+    PCF8820_LINE_SDA = 1,
+    PCF8820_LINE_SCL = 2
+};
+
+/* Where a wire state has what. */
+enum pcf8820_wire_word {
+    PCF8820_WIRE_WORD_UNCLEAR = 0,
+    PCF8820_WIRE_WORD_LAST = 1,
+    PCF8820_WIRE_WORD_STAGE = 2,
+    PCF8820_WIRE_WORD_BITS = 3,
+    PCF8820_WIRE_WORD_VALUE = 4
+};
+
+/* What the word of the stage holds. */
+enum pcf8820_wire_stage {
+    PCF8820_WIRE_STAGE_OUTSIDE = 0,
+    PCF8820_WIRE_STAGE_WAITING = 1,
+    PCF8820_WIRE_STAGE_FIRST = 2,
+    PCF8820_WIRE_STAGE_WRITING = 3,
+    PCF8820_WIRE_STAGE_READING = 4
+};
+
 /* Bus events above those of a byte from the master, which is its own number. A sensor reading is
  * PCF8820_EVENT_SENSOR + reading. */
 enum pcf8820_event {
@@ -202,11 +228,13 @@ enum pcf8820_glass_answer {
 /* pcf8820_pulses of a pixel that gets pulses is this and the four. It is too large for an enum. */
 #define PCF8820_PULSES UINT64_C(0x100000000)
 
-/* What is refused, of all calls. 0 is no refusal: what was asked is done. */
+/* What is refused, of all calls. 0 is no refusal: what was asked is done. 2 is for the words of a chip's
+ * record and for those of a wire state. */
 enum pcf8820_refusal {
     PCF8820_DONE = 0,
     PCF8820_REFUSED_MEMORY = 1,
     PCF8820_REFUSED_RECORD = 2,
+    PCF8820_REFUSED_WIRE_STATE = 2,
     PCF8820_REFUSED_EVENT = 3,
     PCF8820_REFUSED_COUNT = 4,
     PCF8820_REFUSED_PIXEL = 5,
@@ -217,7 +245,9 @@ enum pcf8820_refusal {
     PCF8820_REFUSED_SHORT_OUTPUT = 10,
     PCF8820_REFUSED_ROW_BUFFER = 11,
     PCF8820_REFUSED_CHIPS = 12,
-    PCF8820_REFUSED_SENSOR_PINS = 13
+    PCF8820_REFUSED_SENSOR_PINS = 13,
+    PCF8820_REFUSED_SAMPLE = 14,
+    PCF8820_REFUSED_EVENT_BUFFER = 15
 };
 
 /* ---- the calls */
@@ -436,6 +466,70 @@ uint64_t pcf8820_compile(const uint64_t *record, size_t record_len,
                          const uint8_t *text, size_t text_len,
                          uint16_t *out, size_t out_len,
                          uint64_t *length, uint64_t *clocks, uint64_t *line);
+
+/* The wires
+ *
+ * Samples of the bus's two lines become bus events. A sample is a byte of 0..3: the clock SCL in bit 1,
+ * the data line SDA in bit 0. Before the first sample both are high. What a sample means is told by the
+ * one before it:
+ *
+ *   both lines changed     unclear: counted, and nothing, no STOP either, is told until the next START
+ *   data fell, clock high  START, event 256; within a message, too
+ *   data rose, clock high  STOP, event 257; also where there was no START before it
+ *   clock rose             from START to STOP a bit, the level of the data line
+ *   anything else          nothing
+ *
+ * Eight bits, the high one first, and a ninth make a byte; its event comes at the ninth. The low bit of
+ * the first byte after a START says whether those that follow are written, 0, or read, 1. The first
+ * byte and bytes written have their value, 0..255, as the event; a byte read has 258 where its ninth
+ * bit is 0, and 259 where it is 1. A START or STOP drops the bits of a byte that is not complete.
+ *
+ * So an event is 0..259, and pcf8820_run takes the events as they are. Reset pulses and sensor readings
+ * are not on these lines: the host puts them in by itself.
+ *
+ * The host holds a wire state as 5 words of 64 bits. It is made by pcf8820_wires_start and only handed
+ * on from call to call:
+ *
+ *   word  what                                               allowed
+ *      0  unclear samples so far, no further than 2^64 - 1   any
+ *      1  the last sample                                    0..3
+ *      2  the stage:                                         0..4
+ *           0 outside START to STOP       3 bytes written
+ *           1 unclear, START awaited      4 bytes read
+ *           2 first byte after a START
+ *      3  how many bits of the present byte there are        0..8
+ *      4  their value                                        0..255
+ *
+ * Refusals, the lowest first:
+ *
+ *   2   the wire state is not allowed, or not 5 words long
+ *   14  a sample is above 3
+ *   15  the event buffer is too short */
+
+/* Writes the wire state before the first sample: 0, 3, 0, 0, 0.
+ *
+ * Gives 0; or 2, with the buffer unchanged, if state_len is not 5. */
+uint64_t pcf8820_wires_start(uint64_t *state, size_t state_len);
+
+/* Takes samples in order and writes their events from events[0] on. The state is changed in place.
+ *
+ * Gives
+ *   0      all samples are consumed
+ *   2, 14  refused: nothing is consumed, and nothing is changed, whatever comes before the bad sample
+ *   15     no room for the event of sample *consumed, counted from 0; those before it are consumed,
+ *          their events stand, and the state is the one after them
+ *
+ * Two numbers are set in every case, for 2 and 14 to 0: *consumed, how many samples are consumed, and
+ * *written, how many events are written. Beyond *written the event buffer is unchanged.
+ *
+ * Samples may come in parts, cut anywhere, each with the state that the part before it left: events and
+ * state at the end are those of all samples at once. After 15 the host takes the events, and calls
+ * again with the samples from *consumed on and an event buffer that is free again, for one event at
+ * least. A sample has at most one event, so samples_len places are always enough. */
+uint64_t pcf8820_wires(uint64_t *state, size_t state_len,
+                       const uint8_t *samples, size_t samples_len,
+                       uint16_t *events, size_t events_len,
+                       uint64_t *consumed, uint64_t *written);
 
 #ifdef __cplusplus
 }
