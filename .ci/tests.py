@@ -15,7 +15,7 @@ import time
 ARCHIVE = "rt staticlib host"
 PARTS = ["tests/run programs", "tests/run model", "tests/run worked", "tests/run gate"]
 PARTS_OF_ARCHIVE = ["tests/run host", "tests/run bus", "tests/run compile", "tests/run samples", "tests/run glass",
-                    "examples/run"]
+                    "tests/run wires", "examples/run"]
 running = set()
 
 

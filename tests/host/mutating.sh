@@ -7,6 +7,9 @@
 #   stand_in SOURCE...     builds these tests with the unchanged model as the library, and runs them
 #   mutant NAME EDIT       the model changed by this sed script must be found out; `model` names the
 #                          source that is changed
+#   common_mutant NAME EDIT
+#                          the same, with the error in the model, too: what the tests know by
+#                          themselves must find it
 #   header_mutant NAME SOURCE EDIT
 #                          the same for the header that hosts include, as this source of the tests
 #                          sees it
@@ -16,7 +19,7 @@ cc=${CC:-gcc}
 out=${TESTS_OUT:-target/tests}/mutants/$tests
 flags='-Itests/model -Itests/host -Itests/host/compile'
 header=include/pcf8820.h
-parts='model four_chips glass pulses list plain compile'
+parts='model four_chips glass pulses list plain compile wires'
 mutants=0
 
 stop() {
@@ -88,6 +91,17 @@ mutant() {
     as_library "$out/mutant.c" "$out/mutant.o" || stop "$1: the changed model does not compile"
     link_tests "$model"
     must_find "$1"
+}
+
+# The model's object is kept, and put back.
+common_mutant() {
+    change "$1" "$2" "tests/model/$model.c" "$out/mutant.c"
+    as_library "$out/mutant.c" "$out/mutant.o" || stop "$1: the changed model does not compile"
+    mv "$out/model/$model.o" "$out/kept.o"
+    compile -O1 -w -c "$out/mutant.c" -o "$out/model/$model.o"
+    link_tests "$model"
+    must_find "$1, in the model too"
+    mv "$out/kept.o" "$out/model/$model.o"
 }
 
 # The object of that source is kept, and put back.

@@ -9,6 +9,8 @@
 #define model_pulses pcf8820_pulses
 #define model_pulse_row pcf8820_pulse_row
 #define model_compile pcf8820_compile
+#define model_wires_start pcf8820_wires_start
+#define model_wires pcf8820_wires
 
 #define model_allowed stand_in_allowed
 #define model_row stand_in_row
