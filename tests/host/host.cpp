@@ -1,5 +1,6 @@
 /* A host in C++. One of its four chips gets an event that the bus does not get; from then on the bus
- * refuses every event, until all four are made idle in one of the two ways that the header tells. */
+ * refuses every event, until all four are made idle in one of the two ways that the header tells. Then
+ * it reads the wires, one event at a time. */
 #include "pcf8820.h"
 
 #include <cstdio>
@@ -60,6 +61,45 @@ static void stop_chip(int c)
     expect_on_bus("reset pulse after it", PCF8820_EVENT_RESET, PCF8820_REFUSED_CHIPS);
 }
 
+/* START, 78h, acknowledged, and STOP. */
+static const uint8_t samples[] = {
+    3, 2, 0, 2, 0, 1, 3, 1, 3, 1, 3, 1, 3, 1, 0, 2, 0, 2, 0, 2, 0, 2, 0, 2, 3
+};
+static const uint16_t events[] = { PCF8820_EVENT_START, 0x78, PCF8820_EVENT_STOP };
+
+static uint64_t wires[PCF8820_WIRE_WORDS];
+
+/* After 15 it goes on with the sample whose event had no room. */
+static void read_wires()
+{
+    const std::size_t length = sizeof samples, all = sizeof events / sizeof events[0];
+    std::size_t from = 0;
+    uint64_t consumed, written;
+    uint16_t event;
+    expect("start of the wires", pcf8820_wires_start(wires, PCF8820_WIRE_WORDS), PCF8820_DONE);
+    for (std::size_t i = 0; i < all; i++) {
+        expect("wires", pcf8820_wires(wires, PCF8820_WIRE_WORDS, samples + from, length - from, &event, 1, &consumed, &written),
+               i < all - 1 ? PCF8820_REFUSED_EVENT_BUFFER : PCF8820_DONE);
+        expect("events written", written, 1);
+        expect("event", event, events[i]);
+        from += consumed;
+    }
+    expect("samples consumed", from, length);
+    expect("unclear samples", wires[PCF8820_WIRE_WORD_UNCLEAR], 0);
+    expect("stage", wires[PCF8820_WIRE_WORD_STAGE], PCF8820_WIRE_STAGE_OUTSIDE);
+}
+
+static void refuse_wires()
+{
+    const uint8_t bad = 4;
+    uint64_t consumed, written;
+    uint16_t event;
+    expect("sample 4", pcf8820_wires(wires, PCF8820_WIRE_WORDS, &bad, 1, &event, 1, &consumed, &written), PCF8820_REFUSED_SAMPLE);
+    wires[PCF8820_WIRE_WORD_LAST] = bad;
+    expect("last sample 4", pcf8820_wires(wires, PCF8820_WIRE_WORDS, samples, 1, &event, 1, &consumed, &written),
+           PCF8820_REFUSED_WIRE_STATE);
+}
+
 int main()
 {
     for (int c = 0; c < PCF8820_CHIPS; c++)
@@ -72,6 +112,8 @@ int main()
     stop_chip(0);
     reset_all();
     begin_message();
+    read_wires();
+    refuse_wires();
     std::puts("C++ host: as the header says");
     return 0;
 }
