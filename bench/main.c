@@ -5,6 +5,7 @@
  * takes is not timed. After it both sides must stand alike. */
 #include "lists.h"
 #include "records.h"
+#include "samples.h"
 #include "sides.h"
 #include "streams.h"
 
@@ -13,14 +14,15 @@
 #include <stdlib.h>
 #include <time.h>
 
-enum { ROUNDS = 15, COLUMNS = 101, ROWS = 67, LIST_LINES = 400 };
+enum { ROUNDS = 15, COLUMNS = 101, ROWS = 67, LIST_LINES = 400, WIRE_EVENTS = 8000 };
 
 static struct stream stream;
 static struct text text;
+static struct lines lines;
 
 /* ---- What is timed ----------------------------------------------------------------------- */
 
-/* Each does its work once on one side, and gives how many events or pixels that was. */
+/* Each does its work once on one side, and gives how many events, pixels or samples that was. */
 
 static uint64_t step_all(struct side *side)
 {
@@ -93,6 +95,15 @@ static uint64_t compile_all(struct side *side)
                                       side->out, MOST_OUT, &length, &clocks, &line);
     side->sum += length + clocks + line;
     return length;
+}
+
+static uint64_t read_wires(struct side *side)
+{
+    uint64_t consumed, written;
+    side->sum += side->calls->wires(side->wires, WIRE_WORDS, lines.samples, lines.length,
+                                    side->out, MOST_OUT, &consumed, &written);
+    side->sum += consumed + 3 * written;
+    return consumed;
 }
 
 /* ---- Drawing lists ----------------------------------------------------------------------- */
@@ -223,6 +234,17 @@ static void compare_compilers(void)
     compare("compile, mixed", "events", compile_all, 50, clear_both);
 }
 
+/* With every change of a line a sample of its own, which is the most work that samples can be; and as a
+ * probe gives them that is faster than the bus. */
+static void compare_wires(void)
+{
+    mixed_stream(&stream);
+    sample_stream(&lines, &stream, WIRE_EVENTS, 1);
+    compare("wires, changes alone", "samples", read_wires, 16, clear_both);
+    sample_stream(&lines, &stream, WIRE_EVENTS, 8);
+    compare("wires, 8 samples a change", "samples", read_wires, 4, clear_both);
+}
+
 int main(void)
 {
     printf("library speed / model speed, %d rounds; buffers cleared before each\n", ROUNDS);
@@ -232,5 +254,6 @@ int main(void)
     compare("glass, every pixel", "pixels", look_at_all, 40, light_up);
     compare("pulses, every row", "pixels", pulse_rows, 40, light_up);
     compare_compilers();
+    compare_wires();
     return 0;
 }

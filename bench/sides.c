@@ -7,6 +7,7 @@
 #include "pcf8820.h"
 #include "pulses.h"
 #include "records.h"
+#include "wires.h"
 
 #include <stdio.h>
 #include <stdlib.h>
@@ -19,6 +20,7 @@ static const struct calls library_calls = {
     .glass = pcf8820_glass,
     .pulse_row = pcf8820_pulse_row,
     .compile = pcf8820_compile,
+    .wires = pcf8820_wires,
 };
 
 static const struct calls model_calls = {
@@ -28,6 +30,7 @@ static const struct calls model_calls = {
     .glass = model_glass,
     .pulse_row = model_pulse_row,
     .compile = model_compile,
+    .wires = model_wires,
 };
 
 struct side library = { .calls = &library_calls };
@@ -42,6 +45,7 @@ void clear(struct side *side)
     for (uint64_t pins = 0; pins < CHIPS; pins++)
         model_reset(side->on_bus[pins].record, WORDS, pins);
     side->count = 0;
+    model_wires_start(side->wires, WIRE_WORDS);
     memset(side->row, 0, sizeof side->row);
     memset(side->out, 0, sizeof side->out);
     side->sum = 0;
@@ -73,6 +77,7 @@ void must_agree(const char *name)
         && memcmp(library.on_bus, model.on_bus, sizeof model.on_bus) == 0
         && library.count == model.count
         && memcmp(library.row, model.row, sizeof model.row) == 0
+        && memcmp(library.wires, model.wires, sizeof model.wires) == 0
         && memcmp(library.out, model.out, sizeof model.out) == 0)
         return;
     fprintf(stderr, "bench: %s: the library and the model do not give the same\n", name);

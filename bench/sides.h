@@ -5,7 +5,7 @@
 #include <stddef.h>
 #include <stdint.h>
 
-enum { WORDS = 34, PLACES = 1717, CHIPS = 4, ROW_BYTES = 404, MOST_OUT = 1 << 18 };
+enum { WORDS = 34, PLACES = 1717, CHIPS = 4, ROW_BYTES = 404, WIRE_WORDS = 5, MOST_OUT = 1 << 18 };
 
 /* The arguments of one chip. */
 #define OF_A_CHIP uint64_t *, size_t, uint8_t *, size_t, uint64_t *, size_t
@@ -21,6 +21,8 @@ struct calls {
                           uint8_t *, size_t);
     uint64_t (*compile)(const uint64_t *, size_t, const uint8_t *, size_t, uint16_t *, size_t,
                         uint64_t *, uint64_t *, uint64_t *);
+    uint64_t (*wires)(uint64_t *, size_t, const uint8_t *, size_t, uint16_t *, size_t,
+                      uint64_t *, uint64_t *);
 };
 
 struct chip {
@@ -29,7 +31,7 @@ struct chip {
     uint64_t writers[PLACES];
 };
 
-/* What a side works on, one chip or four on a bus, and a sum over all that it gave back. */
+/* What a side works on, one chip, four on a bus or the wires, and a sum over all that it gave back. */
 struct side {
     const struct calls *calls;
     uint64_t record[WORDS];
@@ -38,13 +40,15 @@ struct side {
     struct chip on_bus[CHIPS];
     uint64_t count;
     uint8_t row[ROW_BYTES];
+    uint64_t wires[WIRE_WORDS];
     uint16_t out[MOST_OUT];
     uint64_t sum;
 };
 
 extern struct side library, model;
 
-/* The reset record, on the bus with the pins 0 to 3; memories, the count and the outputs 0. */
+/* The reset record, on the bus with the pins 0 to 3; the wires before the first sample; memories, the
+ * count and the outputs 0. */
 void clear(struct side *side);
 
 /* A record that shows levels, and a random memory, the same on both sides. */
