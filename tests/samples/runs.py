@@ -142,7 +142,7 @@ def examples(calls, archive):
                f"mkdir -p target/staticlib && cp '{archive}' target/staticlib/libhost.a")
         shown_at_once(calls, run, "examples/run: host proved (9 s)", sign, PATH=path)
         calls.expect(run, 0, out="examples: as expected\n", PATH=path)
-        for name in "four_glasses", "host":
+        for name in "wires", "four_glasses", "host":
             with open(os.path.join(project, f"examples/{name}.stdout"), "a") as file:
                 file.write(f"one line more of {name}\n")
             calls.expect(run, 1, out=f"< one line more of {name}", PATH=path)
