@@ -6,18 +6,10 @@
 
 #include <inttypes.h>
 #include <stdlib.h>
-#include <string.h>
 
 #define USAGE "draw PINS [LIST]"
 
 enum { MOST_TEXT = 1 << 20, TOO_SHORT = 10 };
-
-static uint64_t pins_of(const char *word)
-{
-    if (strlen(word) != 1 || word[0] < '0' || word[0] > '3')
-        wrong_call("draw", "PINS is not 0, 1, 2 or 3", USAGE);
-    return (uint64_t)(word[0] - '0');
-}
 
 /* One byte more than a list may have is read, to know whether there is one. */
 static size_t read_text(FILE *file, uint8_t *text)
@@ -70,7 +62,7 @@ int main(int argc, char **argv)
     uint64_t length, clocks, line;
 
     check_words(argc, argv, "draw", 2, 3, USAGE);
-    uint64_t pins = pins_of(argv[1]);
+    uint64_t pins = pins_of("draw", argv[1], USAGE);
     FILE *file = open_input("draw", argc == 3 ? argv[2] : NULL);
     size_t text_length = read_text(file, text);
     model_reset(record, WORDS, pins);

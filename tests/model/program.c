@@ -40,6 +40,13 @@ void check_words(int argc, char **argv, const char *program, int least, int most
         wrong_call(program, "too many arguments", usage);
 }
 
+uint64_t pins_of(const char *program, const char *word, const char *usage)
+{
+    if (strlen(word) != 1 || word[0] < '0' || word[0] > '3')
+        wrong_call(program, "PINS is not 0, 1, 2 or 3", usage);
+    return (uint64_t)(word[0] - '0');
+}
+
 /* A name as it is shown: in one line, and in quotes where there is nothing to show. */
 static void show(const char *name, char *shown)
 {

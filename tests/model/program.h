@@ -2,6 +2,7 @@
 #ifndef PROGRAM_H
 #define PROGRAM_H
 
+#include <stdint.h>
 #include <stdio.h>
 
 /* Prints `PROGRAM: ` and the message to standard error, and ends the program. */
@@ -13,6 +14,9 @@ _Noreturn void wrong_call(const char *program, const char *fault, const char *us
 /* Looks at the program's words: `--help` alone is answered, and ends the program; fewer or more words
    than these, the program's name among them, are a wrong call. */
 void check_words(int argc, char **argv, const char *program, int least, int most, const char *usage);
+
+/* How the chip's pins are wired, by a program's argument: 0 to 3, anything else is a wrong call. */
+uint64_t pins_of(const char *program, const char *word, const char *usage);
 
 /* The file of this path; standard input where there is none, or where it is `-`. Gives up if it cannot
    be opened. A program opens two files at most. */

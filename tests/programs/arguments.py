@@ -5,11 +5,13 @@ import tempfile
 import captures
 import lists
 import texts
+import wires
 
 CAPTURE = texts.capture(captures.GOOD)
 LIST = lists.LIT + b"put\t5\t2\t167\n"
+SAMPLES = wires.samples_of(captures.GOOD)
 READERS = ((["replay"], CAPTURE), (["view"], CAPTURE), (["draw", "1"], LIST), (["who", "8", "5"], CAPTURE),
-           (["state"], CAPTURE), (["trace"], CAPTURE))
+           (["state"], CAPTURE), (["trace"], CAPTURE), (["wires", "1"], SAMPLES))
 
 
 def files(sides):
@@ -30,7 +32,7 @@ def large_files(sides):
         path = os.path.join(directory, "input")
         for words, data in ((["replay"], CAPTURE + b"257\n" * 100000), (["view"], CAPTURE * 3000),
                             (["who", "8", "5"], CAPTURE + b"257\n" * 100000), (["state"], CAPTURE + b"257\n" * 100000),
-                            (["trace"], CAPTURE + b"257\n" * 20000),
+                            (["trace"], CAPTURE + b"257\n" * 20000), (["wires", "2"], SAMPLES * 300),
                             (["draw", "2"], LIST * 500), (["draw", "2"], b"\n" * lists.MOST_BYTES),
                             (["draw", "2"], b"\n" * (lists.MOST_BYTES + 1))):
             with open(path, "wb") as file:
@@ -122,12 +124,14 @@ def wrong_calls(sides):
             file.write(LIST)
         for words in (["replay", path, path], ["view", path, path], ["draw"], ["draw", "0", path, path],
                       ["replay", path, ""], ["view", "a", "b", "c"], ["who", "8", "5", path, path],
-                      ["who", "8", "5", path, ""], ["state", path, path], ["trace", path, path], ["trace", path, ""]):
+                      ["who", "8", "5", path, ""], ["state", path, path], ["trace", path, path], ["trace", path, ""],
+                      ["wires"], ["wires", "0", path, path], ["wires", "0", path, ""]):
             sides.same(words, CAPTURE)
         for pins in ("4", "00", "01", "03", "", " 0", "0 ", "-1", "+1", "x", "0x1", "10", "255", "256",
                      "260", "4294967296", "18446744073709551616", "pins", path):
-            sides.same(["draw", pins], LIST)
-            sides.same(["draw", pins, path], b"")
+            for program, data in ("draw", LIST), ("wires", SAMPLES):
+                sides.same([program, pins], data)
+                sides.same([program, pins, path], b"")
 
 
 THEMES = [no_arguments, wrong_calls, standard_input, two_files, files, large_files, relative_files,

@@ -174,9 +174,6 @@ mutant 'list of 1,048,577 bytes taken' 's/MOST_TEXT = 1 << 20/MOST_TEXT = (1 << 
 mutant 'newline added to the last line' 's/^    return length;/    if (length > 0 \&\& text[length - 1] != 10) text[length++] = 10; return length;/'
 
 groups=arguments
-mutant 'pins 4 taken' "s/word\[0\] > '3'/word[0] > '4'/"
-mutant 'pins 00 taken' "s/strlen(word) != 1/strlen(word) > 2/"
-mutant 'pins not looked at' "s/if (strlen(word) != 1 .*/if (0)/"
 mutant 'words behind the list passed over' 's/"draw", 2, 3,/"draw", 2, 9,/'
 
 model=replay
@@ -209,6 +206,9 @@ mutant 'page 4 left out' 's/page < PAGES/page < PAGES - 1/'
 mutant 'words behind the name passed over' 's/"search", 1, 1,/"search", 1, 9,/'
 
 model=program
+mutant 'pins 4 taken' "s/word\[0\] > '3'/word[0] > '4'/"
+mutant 'pins 00 taken' "s/strlen(word) != 1/strlen(word) > 2/"
+mutant 'pins not looked at' "s/if (strlen(word) != 1 .*/if (0)/"
 mutant 'message on standard output' 's/fprintf(stderr, "%s: ", program)/printf("%s: failed\\n", program)/'
 mutant 'status 0 for a wrong call' 's/exit(1)/exit(0)/'
 mutant 'crash at a wrong call' 's/exit(1)/abort()/'
@@ -234,6 +234,7 @@ mutant 'standard input without its name' 's/"standard input"/"-"/'
 mutant 'newline of a name shown' "s/< ' '/< '\\\\n'/"
 mutant 'byte 127 of a name shown' 's/ || \*byte == 127//'
 mutant 'no name shown as nothing' "s/\\*name == '.0'/0/"
+mutant 'wrong pins told without the usage' 's/wrong_call(program, \("PINS.*\), usage)/give_up(program, \1)/'
 mutant 'path of 4,095 bytes not named' 's/> MOST_PATH)/>= MOST_PATH)/'
 
 model=compare
@@ -246,5 +247,4 @@ mutant 'line 0 told' 's/if (line != 0)/if (1)/'
 mutant 'no line told' 's/if (line != 0)/if (0)/'
 mutant 'list not named' 's/"draw: %s", name)/"draw: the list")/'
 mutant 'sentence on standard output' 's/fprintf(stderr, ": refused by/printf(": refused by/'
-mutant 'wrong pins told without the usage' 's/wrong_call("draw", \("PINS.*\), USAGE)/give_up("draw", \1)/'
 mutant 'long list not named' 's/"%s: longer than %d bytes", name_of(file), /"longer than %d bytes", /'

@@ -14,10 +14,15 @@ import tempfile
 import captures
 import lists
 import texts
+import wires
 
 CAPTURE = texts.capture(captures.GOOD)
 # Some 400 kB: more than any program reads at a time, and more than a pipe holds.
 LARGE = CAPTURE + b"0\n" * 200_000
+SAMPLES = wires.samples_of(captures.GOOD)
+LARGE_SAMPLES = SAMPLES * 400
+# The programs that print as they read, with an input that tells little, and one that they must not read to its end.
+AS_READ = [(["trace"], CAPTURE, LARGE), (["wires", "1"], SAMPLES, LARGE_SAMPLES)]
 SAMPLE = os.path.join(os.path.dirname(os.path.abspath(__file__)), "../../samples/stray.capture")
 # Many lines, so that a program that goes on would say it many times; and a refused input, which prints another line.
 CASES = [
@@ -29,6 +34,9 @@ CASES = [
     (["who", "8", "5"], CAPTURE), (["who", "8", "5"], b""), (["who", "--help"], b""),
     (["state"], CAPTURE), (["state"], b""), (["state", "--help"], b""),
     (["trace"], CAPTURE), (["trace"], b""), (["trace", "--help"], b""),
+    (["wires", "1"], SAMPLES), (["wires", "1"], b""), (["wires", "1"], b"\4"), (["wires", "--help"], b""),
+    # With unclear samples, too.
+    (["wires", "1"], b"\0" + SAMPLES), (["wires", "1"], LARGE_SAMPLES),
     (["instructions"], b""), (["cases_run"], b""),
     (["replay"], LARGE), (["view"], LARGE), (["who", "8", "5"], LARGE), (["state"], LARGE), (["trace"], LARGE),
     (["compare", "-", SAMPLE], LARGE),
@@ -56,11 +64,10 @@ def wrong(directory, words, data, start, reason):
     return None
 
 
-def reads_on(directory, start):
-    """Whether trace, which prints as it reads, takes all of a large capture though nothing that it prints is taken."""
-    process = subprocess.Popen(started(directory, ["trace"], start), stdin=subprocess.PIPE, stdout=subprocess.PIPE,
+def reads_on(directory, words, left, start):
+    """Whether a program that prints as it reads takes all of a large input though nothing that it prints is taken."""
+    process = subprocess.Popen(started(directory, words, start), stdin=subprocess.PIPE, stdout=subprocess.PIPE,
                                stderr=subprocess.PIPE, bufsize=0)
-    left = LARGE
     try:
         while left:
             left = left[os.write(process.stdin.fileno(), left):]
@@ -77,27 +84,28 @@ def faults(directory):
             fault = wrong(directory, words, data, start, reason)
             if fault:
                 yield f"{' '.join(words)}, {start}, input {data[:60]!r} of {len(data)} bytes: {fault}"
-        if reads_on(directory, start):
-            yield f"trace, {start}: reads on to the end of its input"
+        for words, _, large in AS_READ:
+            if reads_on(directory, words, large, start):
+                yield f"{' '.join(words)}, {start}: reads on to the end of its input"
 
 
-SAY = "os.write(2, b'trace: standard output: No space left on device\\n')"
-# What a trace that goes on does: says it for each part, or says it once and reads on.
+SAY = "os.write(2, b'%s: standard output: No space left on device\\n')"
+# What a program that goes on does: says it for each part, or says it once and reads on.
 GOING_ON = [f"while os.read(0, 65536): {SAY}", f"os.read(0, 65536); {SAY}\nwhile os.read(0, 65536): pass"]
 
 
-def found_out(code):
-    """Whether a trace of this code is found to go on."""
+def found_out(code, words, small, large):
+    """Whether a program of this code is found to go on."""
     start, reason = OUTPUTS[0]
     with tempfile.TemporaryDirectory() as directory:
-        path = os.path.join(directory, "trace")
+        path = os.path.join(directory, words[0])
         with open(path, "w") as file:
-            file.write(f"#!{sys.executable} -S\nimport os\n{code}\n")
+            file.write(f"#!{sys.executable} -S\nimport os\n{code % words[0]}\n")
         os.chmod(path, 0o755)
-        # As the first case of trace has it, nothing is to be seen.
-        if wrong(directory, ["trace"], CAPTURE, start, reason):
+        # By the small input nothing is to be seen.
+        if wrong(directory, words, small, start, reason):
             return False
-        return wrong(directory, ["trace"], LARGE, start, reason) is not None or reads_on(directory, start)
+        return wrong(directory, words, large, start, reason) is not None or reads_on(directory, words, large, start)
 
 
 def main(words):
@@ -106,10 +114,11 @@ def main(words):
     for fault in faults(os.path.abspath(words[0])):
         sys.exit(f"full output: {fault}")
     for code in GOING_ON:
-        if not found_out(code):
-            sys.exit(f"full output: a trace that goes on is not found: {code!r}")
-    print(f"full output: {len(OUTPUTS) * (len(CASES) + 1)} calls, each told once by the program's name; "
-          f"{len(GOING_ON)} stand-ins that go on are found")
+        for case in AS_READ:
+            if not found_out(code, *case):
+                sys.exit(f"full output: a {case[0][0]} that goes on is not found: {code!r}")
+    print(f"full output: {len(OUTPUTS) * (len(CASES) + len(AS_READ))} calls, each told once by the program's name; "
+          f"{len(GOING_ON) * len(AS_READ)} stand-ins that go on are found")
 
 
 main(sys.argv[1:])

@@ -4,7 +4,7 @@
 
 PROGRAMS and MODEL are directories with the programs. `--status` asks for a status that is not 0
 where a call fails. `quick` takes a sample of the cases, of these groups only: arguments, messages,
-captures, pairs, lists, pixels, states, traces, agreement.
+captures, pairs, lists, pixels, states, traces, wires, agreement.
 """
 import os
 import sys
@@ -18,12 +18,13 @@ import pairs
 import pixels
 import states
 import traces
+import wires
 from sides import Difference, Sides, report
 
 
 GROUPS = {"arguments": arguments.THEMES, "messages": messages.THEMES, "captures": captures.THEMES,
           "pairs": pairs.THEMES, "lists": lists.THEMES, "pixels": pixels.THEMES, "states": states.THEMES,
-          "traces": traces.THEMES, "agreement": agreement.THEMES}
+          "traces": traces.THEMES, "wires": wires.THEMES, "agreement": agreement.THEMES}
 
 
 def compare(sides, groups):

@@ -1,7 +1,7 @@
 """Themes of what the programs say: the exact bytes on standard error, and nothing on standard output.
 
 Each program has a row in USAGES. One that reads a capture, named by its last argument, has a row in
-CAPTURE_READERS too; for `draw`, `compare` and `search` there are themes of their own.
+CAPTURE_READERS too; for `draw`, `compare`, `search` and `wires` there are themes of their own.
 """
 import os
 import tempfile
@@ -22,11 +22,12 @@ USAGES = {
     "who": b"who ROW COLUMN [CAPTURE]",
     "state": b"state [CAPTURE]",
     "trace": b"trace [CAPTURE]",
+    "wires": b"wires PINS [SAMPLES]",
 }
 
 # The words before the input's name.
 CAPTURE_READERS = [["replay"], ["view"], ["who", "8", "5"], ["state"], ["trace"]]
-READERS = CAPTURE_READERS + [["draw", "2"]]
+READERS = CAPTURE_READERS + [["draw", "2"], ["wires", "2"]]
 
 MOST_PATH = 4095
 
@@ -71,6 +72,7 @@ def help_among_others(sides):
     """Beside other words `--help` is a word as any other."""
     no_file = b"--help", b"No such file or directory"
     sides.says(["draw", "0", "--help"], message("draw", *no_file))
+    sides.says(["wires", "0", "--help"], message("wires", *no_file))
     sides.says(["compare", "--help", "-"], message("compare", *no_file))
     sides.says(["replay", "--help", "-"], wrong_call("replay", b"too many arguments"))
     sides.says(["search", "--help", ""], wrong_call("search", b"too many arguments"))
@@ -98,9 +100,11 @@ def two_inputs(sides):
 
 
 def pins(sides):
+    fault = b"PINS is not 0, 1, 2 or 3"
     for word in ("4", "00", "", "-1", " 0", "-", "x" * 5000):
-        sides.says(["draw", word], wrong_call("draw", b"PINS is not 0, 1, 2 or 3"), LIST)
-        sides.says(["draw", word, "missing"], wrong_call("draw", b"PINS is not 0, 1, 2 or 3"))
+        for program in ("draw", "wires"):
+            sides.says([program, word], wrong_call(program, fault), LIST)
+            sides.says([program, word, "missing"], wrong_call(program, fault))
 
 
 def pixels(sides):
@@ -199,5 +203,19 @@ def long_lists(sides):
     sides.says(["draw", "0"], message("draw", b"standard input", b"longer than 1048576 bytes"), text)
 
 
+def unclear_samples(sides):
+    """Told behind the capture, with their number; before a byte that is no sample, too. A refusal alone is not told."""
+    start = b"pins\t3\n256\n"
+    with tempfile.TemporaryDirectory() as directory:
+        for samples, said, output in (
+                (b"\2\1", b"1 unclear sample", start), (b"\2\1\2", b"2 unclear samples", start),
+                (b"\2\1\4\1", b"1 unclear sample", start + b"refused\t14\t2\n"),
+                (b"\2\4", None, start + b"refused\t14\t1\n"), (b"\2", None, start),
+                (b"\2" + b"\1\2" * 617, b"1234 unclear samples", start)):
+            path = written(directory, "samples", samples)
+            for words in [path], [], ["-"]:
+                sides.says(["wires", "3"] + words, message("wires", said) if said else b"", samples, output)
+
+
 THEMES = [helps, help_among_others, wrong_numbers_of_words, two_inputs, pins, pixels, unopened, long_names, odd_names,
-          unread, refused_captures, refused_lists, long_lists]
+          unread, refused_captures, refused_lists, long_lists, unclear_samples]

@@ -3,7 +3,8 @@
 # they must pass, and with one error put into a copy of a source at a time, when they must not. Run from
 # the project's root.
 #
-# The errors stand in tests/programs/errors.sh and errors_told.sh. As many are tried at a time as there are cores.
+# The errors stand in tests/programs/errors.sh, errors_told.sh and errors_wires.sh. As many are tried at a time as
+# there are cores.
 set -eu
 
 cc=${CC:-gcc}
@@ -11,7 +12,7 @@ cc=${CC:-gcc}
 python=$(python3 -c 'import sys; print(sys.executable)')
 out=${TESTS_OUT:-target/tests}/mutants/programs
 flags='-std=c11 -Itests/model -O1 -w'
-programs='replay view draw compare search who state trace'
+programs='replay view draw compare search who state trace wires'
 
 # What the list of errors sets, and how many errors of it were met.
 model=
@@ -33,6 +34,7 @@ parts() {
     search) echo search program model ;;
     who) echo who capture program model glass ;;
     state | trace) echo "$1" capture names program model ;;
+    wires) echo wires wires_program program ;;
     esac
 }
 
@@ -60,7 +62,7 @@ holds() {
 build_model() {
     rm -rf "$out"
     mkdir -p "$out/objects" "$out/model" "$out/tried"
-    for part in $programs capture names program compile plain list model glass; do
+    for part in $programs wires_program capture names program compile plain list model glass; do
         # shellcheck disable=SC2086
         "$cc" $flags -c "tests/model/$part.c" -o "$out/objects/$part.o"
     done
@@ -118,6 +120,8 @@ work() {
     . tests/programs/errors.sh
     # shellcheck source=tests/programs/errors_told.sh
     . tests/programs/errors_told.sh
+    # shellcheck source=tests/programs/errors_wires.sh
+    . tests/programs/errors_wires.sh
     echo "$mutants" >"$out/mutants"
 }
 

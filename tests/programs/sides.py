@@ -4,7 +4,7 @@ What is asked of a program, by what the model does:
 
 - the model ends with status 0: the output is the model's, byte by byte, the status is 0 and nothing
   stands on standard error; but where `draw` refuses, one line there says by which number and at which
-  line;
+  line, and what `wires` says there is what the model says;
 - the model gives up: there is no crash, no output, and exactly one line on standard error, which begins
   with the program's name; the status is not 0 where that is asked for. (It is not asked of a Rattle
   program: it ends with 0 whenever its `main` returns.)
@@ -131,8 +131,11 @@ def is_message(program, said):
     return said.count(b"\n") == 1 and said.endswith(b"\n") and said.startswith(program.encode() + b": ")
 
 
-def is_told(program, output, said):
-    """What stands on standard error where the output is this one: nothing, but for a refusal of `draw`."""
+def is_told(program, output, said, theirs):
+    """What stands on standard error where the output is this one: nothing, but for a refusal of `draw` and for the
+    unclear samples of `wires`."""
+    if program == "wires":
+        return said == theirs
     if program != "draw" or not output.startswith(b"refused\t"):
         return said == b""
     number, line = output.split()[1:]
@@ -152,7 +155,7 @@ def difference(program, ours, theirs, with_status):
         return None
     if ours.output != theirs.output:
         return f"output\n  {shown(ours.output)}\nand not\n  {shown(theirs.output)}"
-    if ours.status != 0 or not is_told(program, ours.output, ours.said):
+    if ours.status != 0 or not is_told(program, ours.output, ours.said, theirs.said):
         return f"status {ours.status}, standard error {shown(ours.said)}"
     return None
 
