@@ -1,5 +1,5 @@
-"""Builds the archive for C, runs the parts of the tests against the independent model, and the examples, as many
-at a time as there are cores.
+"""Builds the archive for C, runs the parts of the tests against the independent model and against sigrok, and the
+examples, as many at a time as there are cores.
 
 What they print stays in order. A part that fails ends the others, and its output alone is printed.
 """
@@ -13,7 +13,7 @@ import time
 
 # What takes long comes first, so that the others run beside it.
 ARCHIVE = "rt staticlib host"
-PARTS = ["tests/run programs", "tests/run model", "tests/run worked", "tests/run gate"]
+PARTS = ["tests/run programs", "tests/run model", "tests/run worked", "tests/run gate", "tests/sigrok/run"]
 PARTS_OF_ARCHIVE = ["tests/run host", "tests/run bus", "tests/run compile", "tests/run samples", "tests/run glass",
                     "tests/run wires", "examples/run"]
 running = set()
