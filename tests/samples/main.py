@@ -3,13 +3,15 @@
     main.py PROGRAMS ARCHIVE           compares
     main.py --make PROGRAMS ARCHIVE    writes the expected outputs and the documents' outputs
 
-PROGRAMS is a directory with replay, draw, view, compare, who, state and trace, ARCHIVE the library for C.
+PROGRAMS is a directory with replay, draw, view, compare, who, state, trace and wires, ARCHIVE the library for C.
 `--make` is for the model's. What is compared:
 
 - each capture of samples/: its listing, its glass, the chip at its end and its events in words, with
   samples/expected/NAME.listing, .glass, .state and .trace;
 - each pair of captures NAME-1 and NAME-2: what differs, with samples/expected/NAME.compared;
 - each list of samples/: the capture that draws it, with samples/expected/NAME.drawn;
+- the samples of two wires: their bytes, with the traffic of samples/probe.capture; what was on the wires,
+  with that capture itself, and with samples/expected/unclear.wires where a sample is lost;
 - in the documents, each code block whose first line begins with `$ `: what its commands print;
 - docs/glass.png: its pixels, with those of README.md's own command for it;
 - samples/picture: the character of every level, and of a dark and an undriven pixel;
@@ -29,6 +31,9 @@ import scripts
 
 DOCUMENTS = ["README.md", "docs/LESSONS.md"]
 PAIRS = ["samples/night"]
+PROBE = "python3 -B tests/programs/probe.py samples/probe.capture"
+# The sample of place 453 is lost: the data line goes up for the first bit of the byte 129.
+LOST = 453
 PICTURE = "docs/glass.png"
 
 
@@ -85,6 +90,15 @@ def compare_samples(sides):
         sides.expect(f"target/bin/compare {name}-1.capture {name}-2.capture", expected(name, "compared"))
     for drawing in sorted(glob.glob("samples/*.list")):
         sides.expect(f"target/bin/draw 0 {drawing}", expected(drawing, "drawn"))
+    compare_probes(sides)
+
+
+def compare_probes(sides):
+    sides.expect(PROBE, "samples/probe.bin")
+    sides.expect(f"{PROBE} {LOST}", "samples/unclear.bin")
+    sides.compare("wires 0 samples/probe.bin", sides.printed("target/bin/wires 0 samples/probe.bin"),
+                  read("samples/probe.capture"))
+    sides.expect("target/bin/wires 0 samples/unclear.bin", "samples/expected/unclear.wires")
 
 
 def blocks(lines):
