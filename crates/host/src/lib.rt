@@ -12,6 +12,7 @@ use record_words::write_record;
 use registers::Chip;
 
 mod bus_call;
+mod wires_call;
 
 // Why words that stand for no record are refused: 1 comes first.
 fn no_record(memory_len: usize, writers_len: usize) -> u64
