@@ -12,7 +12,7 @@ use Rattle.wire_traffic.specs.Calls.{goneOn, Call, Course, course, fed, 
 use Rattle.wire_traffic.specs.When.{Allowed, InRanges, Samples, need, When}
 use Rattle.wire_traffic.specs.When.When.{none}
 use Rattle.wire_traffic.proofs.Ranges.{samples-front, all-in-ranges}
-use Rattle.wire_traffic.proofs.Rooms.{fit-within, with-room, exactly-when}
+use Rattle.wire_traffic.proofs.Rooms.{fit-within, within-room, with-room, exactly-when}
 
 course-same : {w w′ : Wires} {ss ss′ es es′ : List ℕ} → w ≡ w′ → ss ≡ ss′ → es ≡ es′ → course w ss es ≡ course w′ ss′ es′
 course-same e f g = rw (e, f, g)
@@ -22,10 +22,11 @@ pub found-events : (f : Feed) (buffer : List ℕ) → found f buffer ≡ f .even
 found-events f buffer = take-append-seam (f .events) (drop (length (f .events)) buffer)
 
 -- how a call leaves it: what was consumed stands at the front of the samples
-pub record Takes (w : Wires) (ss : List ℕ) (f : Feed) : Type 0 where
+pub record Takes (room : ℕ) (w : Wires) (ss : List ℕ) (f : Feed) : Type 0 where
   pub wires : f .wires ≡ afterAll w (take (f .consumed) ss)
   pub events : f .events ≡ eventsOf w (take (f .consumed) ss)
   pub within : f .consumed ≤ length ss
+  pub fits : length (f .events) ≤ room
 
 front-bound : (m : ℕ) (ss : List ℕ) → length (take m ss) ≤ m
 front-bound zero ss = omega arith
@@ -37,15 +38,15 @@ shorter zero ss = omega arith
 shorter (suc m) [] = omega arith
 shorter (suc m) (s ∷ ss) = omega (arith, shorter m ss)
 
-feed-takes : (room : ℕ) (w : Wires) (ss : List ℕ) → Takes w ss (feedOf room w ss)
+pub feed-takes : (room : ℕ) (w : Wires) (ss : List ℕ) → Takes room w ss (feedOf room w ss)
 unfolding feedOf afterAll eventsOf
 feed-takes room w ss = go (refusalOf w ss)
   where
-    go : (k : ℕ) → Takes w ss (unlessRefused k w (asMuchAsFits room w ss))
-    go zero = record { wires = refl; events = refl; within = fit-within room w ss }
-    go (suc k) = record { wires = refl; events = refl; within = omega arith }
+    go : (k : ℕ) → Takes room w ss (unlessRefused k w (asMuchAsFits room w ss))
+    go zero = record { wires = refl; events = refl; within = fit-within room w ss; fits = within-room room w ss }
+    go (suc k) = record { wires = refl; events = refl; within = omega arith; fits = omega arith }
 
-fed-takes : (c : Call) (w : Wires) (ss : List ℕ) → Takes w ss (fed c w ss)
+fed-takes : (c : Call) (w : Wires) (ss : List ℕ) → Takes (length (c .buffer)) w ss (fed c w ss)
 fed-takes c w ss =
     let takes = feed-takes (length (c .buffer)) w (take (c .offered) ss) in
     let n : ℕ = fed c w ss .consumed in
@@ -55,6 +56,7 @@ fed-takes c w ss =
       wires = takes .wires ∙ ap (afterAll w) same;
       events = takes .events ∙ ap (eventsOf w) same;
       within = omega (arith, takes .within, shorter (c .offered) ss);
+      fits = takes .fits;
     }
 
 -- a call that is answered by 0 told all

@@ -1,18 +1,19 @@
 -- What is promised of samples, in one place: read this file first. The work stands in the files beside it.
-use mathlib.Core.List.{List, [], _∷_, _++_}
-use mathlib.Core.Logic.{_↔_, _⊎_}
-use mathlib.Core.Path.{_≡_, refl, sym, ap, _∙_}
-use Prim.Native.Nat.{ℕ, zero, suc, _≤_, _<_}
-use native.Mathlib.Omega.{arith}
-use lib.ListN.{length, take, drop}
+use mathlib.Core.List.{List, [], _++_}
+use mathlib.Core.Logic.{_↔_}
+use mathlib.Core.Path.{_≡_}
+use Prim.Native.Nat.{ℕ, suc, _+_, _≤_}
+use lib.ListN.{length}
 use Rattle.wire_samples.specs.declared.Wires.{Wires}
 use Rattle.wire_samples.specs.Sample.{atStart}
-use Rattle.wire_samples.specs.Feed.{afterAll, eventsOf, Feed, consuming, refusalOf, feedOf}
+use Rattle.wire_samples.specs.Feed.{afterAll, eventsOf, consuming, refusalOf, feedOf}
 use Rattle.wire_traffic.specs.Calls.{goneOn, Call, Course, course, afterCalls, Part, joined, callsOf, Rooms}
+use Rattle.wire_traffic.specs.Unclear.{howManyUnclear, most, atMost}
 use Rattle.wire_traffic.specs.When.{Allowed, InRanges, Samples, need, When}
 use Rattle.wire_traffic.proofs.Cuts as Cuts
 use Rattle.wire_traffic.proofs.Ranges as Ranges
 use Rattle.wire_traffic.proofs.Rooms as Rooms
+use Rattle.wire_traffic.proofs.Unclear as Unclear
 
 -- ---- refusals
 
@@ -34,7 +35,7 @@ module _ (room : ℕ) (w : Wires) (ss : List ℕ) where
   pub with-room : Allowed w → Samples ss → need w ss ≤ room → feedOf room w ss ≡ consuming (length ss) w ss
   with-room = Rooms.with-room room w ss
 
--- ---- ranges
+-- ---- ranges, and the count of unclear samples
 
 pub start-in-ranges : InRanges atStart
 start-in-ranges = Ranges.start-in-ranges
@@ -42,6 +43,11 @@ start-in-ranges = Ranges.start-in-ranges
 -- of every state that a call hands back, refused or not
 pub call-in-ranges : (room : ℕ) (w : Wires) → InRanges w → (ss : List ℕ) → InRanges (feedOf room w ss .wires)
 call-in-ranges = Ranges.call-in-ranges
+
+-- unclear samples are those where both lines changed; they are counted, and no others, no further than 2^64 - 1
+pub unclear-counted :
+    (w : Wires) (ss : List ℕ) → w .unclear ≤ most → afterAll w ss .unclear ≡ atMost (w .unclear + howManyUnclear (w .last) ss)
+unclear-counted = Unclear.unclear-counted
 
 -- ---- parts
 

@@ -10,5 +10,6 @@ pub mod RoundTrip
 pub mod Runs
 pub mod Stretched
 pub mod Told
+pub mod Unclear
 pub mod Worked
 pub mod Wrong

@@ -1,12 +1,12 @@
 -- The ranges are kept: by the start, by every sample, and so by every call.
 use mathlib.Core.Bool.{Bool, true, false, cond}
 use mathlib.Core.List.{List, [], _∷_}
-use mathlib.Core.Path.{_≡_, refl, sym, ap, subst, _∙_}
-use Prim.Native.Nat.{ℕ, zero, suc, _+_, _*_, _%_, _^_, _≤_, _<_}
+use mathlib.Core.Path.{_≡_, refl}
+use Prim.Native.Nat.{ℕ, zero, suc, _≤_}
 use native.Mathlib.Omega.{arith}
-use borrow.Author.Tests.{ltb-true, eqb-false}
-use lib.Dec.{eqb, ltb}
-use lib.ListN.{length, take, getD}
+use borrow.Author.Tests.{ltb-true}
+use lib.Dec.{ltb}
+use lib.ListN.{take}
 use Rattle.wire_samples.specs.declared.Stage.{Stage}
 use Rattle.wire_samples.specs.declared.Stage.the-variants.{Outside, Waiting, First}
 use Rattle.wire_samples.specs.declared.Wires.{Wires}
@@ -14,22 +14,14 @@ use Rattle.wire_samples.specs.declared.signal.Signal.{Signal}
 use Rattle.wire_samples.specs.declared.signal.Signal.the-variants.{Quiet, Start, Stop, Bit, Unclear}
 use Rattle.wire_samples.specs.declared.sample.Told.{Told}
 use Rattle.wire_samples.specs.declared.sample.Told.the-variants.{Nothing, Event}
-use Rattle.wire_samples.specs.declared.sample.Sampled.{Sampled}
 use Rattle.wire_samples.specs.Signal.{signalOf}
-use Rattle.wire_samples.specs.Sample.{atStart, quiet, anew, countedUp, onUnclear, isWaiting, onStop, inMessage, withBit, oneBitMore, stageAfter, eventOf, byteDone, onBit, onSignal, sampleOf}
+use Rattle.wire_samples.specs.Sample.{atStart, quiet, anew, isWaiting, onStop, inMessage, withBit, oneBitMore, stageAfter, eventOf, byteDone, onBit, onSignal, sampleOf}
 use Rattle.wire_samples.specs.Feed.{afterSample, afterAll, unlessRefused, refusalOf, fitting, asMuchAsFits, feedOf}
 use Rattle.wire_traffic.proofs.Rooms.{unrefused}
-use Rattle.wire_traffic.specs.When.{Allowed, InRanges, Samples}
+use Rattle.wire_traffic.specs.When.{InRanges, Samples}
 
 pub start-in-ranges : InRanges atStart
-start-in-ranges = record { unclear = omega arith; last = omega arith; bits = omega arith; value = omega arith }
-
-counted-in-range : (n : ℕ) → n < 2 ^ 64 → countedUp n < 2 ^ 64
-counted-in-range n h = go (eqb n 18446744073709551615) refl
-  where
-    go : (t : Bool) → eqb n 18446744073709551615 ≡ t → cond t n (n + 1) < 2 ^ 64
-    go true e = h
-    go false e = omega (arith, h, eqb-false n 18446744073709551615 e)
+start-in-ranges = record { last = omega arith; bits = omega arith; value = omega arith }
 
 pub with-bit-in-range : (v : ℕ) (b : Bool) → withBit v b ≤ 255
 with-bit-in-range v true = omega arith
@@ -37,10 +29,10 @@ with-bit-in-range v false = omega arith
 
 module _ (w : Wires) (r : InRanges w) (s : ℕ) (h : s ≤ 3) where
   at-stage : (st : Stage) (t : Told) → InRanges (anew w s st t .wires)
-  at-stage st t = record { unclear = r .unclear; last = h; bits = omega arith; value = omega arith }
+  at-stage st t = record { last = h; bits = omega arith; value = omega arith }
 
   kept : InRanges (quiet w s .wires)
-  kept = record { unclear = r .unclear; last = h; bits = r .bits; value = r .value }
+  kept = record { last = h; bits = r .bits; value = r .value }
 
   on-bit : (b : Bool) → InRanges (onBit w s b .wires)
   unfolding onBit
@@ -50,7 +42,7 @@ module _ (w : Wires) (r : InRanges w) (s : ℕ) (h : s ≤ 3) where
       go false u e = kept
       go true false e = at-stage (stageAfter (w .stage) (w .value)) (Event (eventOf (w .stage) (w .value) b))
       go true true e =
-          record { unclear = r .unclear; last = h; bits = omega (arith, ltb-true (w .bits) 8 e); value = with-bit-in-range (w .value) b }
+          record { last = h; bits = omega (arith, ltb-true (w .bits) 8 e); value = with-bit-in-range (w .value) b }
 
   on-stop : InRanges (onStop w s .wires)
   unfolding onStop
@@ -67,7 +59,7 @@ module _ (w : Wires) (r : InRanges w) (s : ℕ) (h : s ≤ 3) where
   on-signal Stop = on-stop
   on-signal (Bit b) = on-bit b
   on-signal Unclear =
-      record { unclear = counted-in-range (w .unclear) (r .unclear); last = h; bits = omega arith; value = omega arith }
+      record { last = h; bits = omega arith; value = omega arith }
 
   pub sample-in-ranges : InRanges (afterSample w s)
   unfolding sampleOf

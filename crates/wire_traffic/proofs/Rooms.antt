@@ -9,7 +9,7 @@ use native.Mathlib.Omega.{arith}
 use borrow.Author.Tests.{lt-ltb, le-ltb, le-leb, lt-leb, leb-true, leb-false, eq-eqb, ne-eqb}
 use lib.Dec.{T, leb, eqb}
 use lib.ListN.{length, take, drop, getD}
-use lib.Seq.{take-all, take-at}
+use lib.Seq.{take-length}
 use Rattle.text.proofs.Numbers.{and-both}
 use Rattle.wire_samples.specs.declared.Wires.{Wires}
 use Rattle.wire_samples.specs.declared.sample.Told.{Told}
@@ -67,6 +67,14 @@ some-fit room w (s ∷ ss) h = go room (sampleOf w s .told) refl h (λ k. some-f
         let less : suc r - 1 ≡ r = omega arith in
         rw (lt-ltb 0 (suc r) (omega arith), less)
         (record { inside = omega (arith, rest .inside); full = rw e (ap suc (rest .full)); next = rest .next })
+
+-- so that no more is told than there is room for
+pub within-room : (room : ℕ) (w : Wires) (ss : List ℕ) → need w (take (fitting room w ss) ss) ≤ room
+within-room room w ss = go (leb (need w ss) room) refl
+  where
+    go : (t : Bool) → leb (need w ss) room ≡ t → need w (take (fitting room w ss) ss) ≤ room
+    go true h = let fit = leb-true (need w ss) room h in rw (all-fit room w ss fit, take-length ss) fit
+    go false h = omega (arith, some-fit room w ss (leb-false (need w ss) room h) .full)
 
 -- ---- the tests, in words
 

@@ -1,3 +1,4 @@
 pub mod Calls
 pub mod Traffic
+pub mod Unclear
 pub mod When

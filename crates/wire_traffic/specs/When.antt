@@ -1,7 +1,7 @@
 -- When a call is refused, in the words of the request and not as tests.
 use mathlib.Core.List.{List}
 use mathlib.Core.Path.{_≡_}
-use Prim.Native.Nat.{ℕ, _^_, _≤_, _<_}
+use Prim.Native.Nat.{ℕ, _≤_, _<_}
 use lib.ListN.{length, getD}
 use Rattle.wire_samples.specs.declared.Wires.{Wires}
 use Rattle.wire_samples.specs.Feed.{eventsOf}
@@ -11,9 +11,8 @@ pub record Allowed (w : Wires) : Type 0 where
   pub last : w .last ≤ 3
   pub bits : w .bits ≤ 8
 
--- and the two numbers that no test looks at, since their types hold them
+-- and the value, which no test looks at, since its type holds it
 pub record InRanges (w : Wires) : Type 0 where
-  pub unclear : w .unclear < 2 ^ 64
   pub last : w .last ≤ 3
   pub bits : w .bits ≤ 8
   pub value : w .value ≤ 255
