@@ -11,13 +11,15 @@ use lib.Dec.{leb, eqb}
 use lib.ListN.{length, getD, take, drop, length-append, length-drop}
 use lib.Seq.{take-append-seam, drop-append-seam}
 use Rattle.wire_samples.specs.Feed.{eventsOf, areSamples, feedOf, stored}
+use Rattle.wire_traffic.proofs.Cuts.{feed-takes}
+use Rattle.wire_traffic.proofs.Ranges.{call-in-ranges}
+use Rattle.wire_traffic.proofs.Rooms.{samples, are-samples, not-samples}
+use Rattle.wire_traffic.proofs.Rooms as Rooms
 use Rattle.wire_words.specs.Words.{stateLength, standsFor, IsState, wiresOf, wordsOf}
 use Rattle.wire_words.specs.Calls.{Started, started, startCall, Called, called, afterFeed, wiresCall, eventsFrom, wordsAfter}
 use Rattle.wire_words.specs.When.{When, done, no-state, above, short, StoppedShort}
-use Rattle.wire_words.proofs.Stands.{stands-exactly}
-use Rattle.wire_words.proofs.Ranges.{feed-in-ranges, in-ranges-state, state-in-ranges}
-use Rattle.wire_words.proofs.Rooms.{fed-events, fed-wires, fed-within}
-use Rattle.wire_words.proofs.Samples.{true-false, samples-exactly, above-exactly}
+use Rattle.wire_words.proofs.Stands.{true-false, stands-exactly}
+use Rattle.wire_words.proofs.Ranges.{in-ranges-state, state-in-ranges}
 use Rattle.wire_words.proofs.Outcomes.{outcome-0, outcome-2, outcome-14, outcome-15}
 
 number-of : {c d : Called} → c ≡ d → c .number ≡ d .number
@@ -41,19 +43,19 @@ module _ (ws ss out : List ℕ) where
           → When ws ss out (wiresCall ws ss out .number)
       go false a r ht ha hr =
           rw (outcome-2 ws ss out ht) (no-state (λ s. true-false (sym (stands-exactly ws .1 s) ∙ ht)))
-      go true false r ht ha hr = rw (outcome-14 ws ss out ht ha) (above (stands-exactly ws .0 ht) (above-exactly ss .0 ha))
+      go true false r ht ha hr = rw (outcome-14 ws ss out ht ha) (above (stands-exactly ws .0 ht) (Rooms.above ss ha))
       go true true false ht ha hr =
           let few = leb-false (length (eventsFrom ws ss)) (length out) hr in
-          rw (outcome-15 ws ss out ht ha few .0) (short (stands-exactly ws .0 ht) (samples-exactly ss .0 ha) few)
+          rw (outcome-15 ws ss out ht ha few .0) (short (stands-exactly ws .0 ht) (samples ss ha) few)
       go true true true ht ha hr =
           let room = leb-true (length (eventsFrom ws ss)) (length out) hr in
-          rw (outcome-0 ws ss out ht ha room) (done (stands-exactly ws .0 ht) (samples-exactly ss .0 ha) room)
+          rw (outcome-0 ws ss out ht ha room) (done (stands-exactly ws .0 ht) (samples ss ha) room)
 
   given : (n : ℕ) → When ws ss out n → wiresCall ws ss out .number ≡ n
   given n (no-state d) = number-of (outcome-2 ws ss out (no-stand d))
-  given n (above s some) = number-of (outcome-14 ws ss out (stands-exactly ws .1 s) (above-exactly ss .1 some))
-  given n (short s all few) = outcome-15 ws ss out (stands-exactly ws .1 s) (samples-exactly ss .1 all) few .0
-  given n (done s all room) = number-of (outcome-0 ws ss out (stands-exactly ws .1 s) (samples-exactly ss .1 all) room)
+  given n (above s some) = number-of (outcome-14 ws ss out (stands-exactly ws .1 s) (not-samples ss some))
+  given n (short s all few) = outcome-15 ws ss out (stands-exactly ws .1 s) (are-samples ss all) few .0
+  given n (done s all room) = number-of (outcome-0 ws ss out (stands-exactly ws .1 s) (are-samples ss all) room)
 
   -- each number comes exactly when the table says, and none but these
   pub exactly-when : (n : ℕ) → (wiresCall ws ss out .number ≡ n) ↔ When ws ss out n
@@ -91,14 +93,14 @@ module _ (ws ss out : List ℕ) where
   refused-by-14 e = go (exactly-when 14 .0 e)
     where
       go : When ws ss out 14 → wiresCall ws ss out ≡ called 14 ws out 0 0
-      go (above s some) = outcome-14 ws ss out (stands-exactly ws .1 s) (above-exactly ss .1 some)
+      go (above s some) = outcome-14 ws ss out (stands-exactly ws .1 s) (not-samples ss some)
 
   -- stopped by 15: the buffer is full, and the state is the one before the event that found no place
   pub stopped-by-15 : wiresCall ws ss out .number ≡ 15 → StoppedShort ws ss out (wiresCall ws ss out)
   stopped-by-15 e = go (exactly-when 15 .0 e)
     where
       go : When ws ss out 15 → StoppedShort ws ss out (wiresCall ws ss out)
-      go (short s all few) = outcome-15 ws ss out (stands-exactly ws .1 s) (samples-exactly ss .1 all) few .1
+      go (short s all few) = outcome-15 ws ss out (stands-exactly ws .1 s) (are-samples ss all) few .1
 
   -- not refused: all samples are consumed, and all their events written
   pub all-consumed :
@@ -109,7 +111,7 @@ module _ (ws ss out : List ℕ) where
       go :
           When ws ss out 0
           → wiresCall ws ss out ≡ called 0 (wordsAfter ws ss) (stored (eventsFrom ws ss) out) (length ss) (length (eventsFrom ws ss))
-      go (done s all room) = outcome-0 ws ss out (stands-exactly ws .1 s) (samples-exactly ss .1 all) room
+      go (done s all room) = outcome-0 ws ss out (stands-exactly ws .1 s) (are-samples ss all) room
 
   by-state :
       (P : Called → Type 0) → (standsFor ws ≡ false → P (called 2 ws out 0 0))
@@ -126,7 +128,7 @@ module _ (ws ss out : List ℕ) where
   unfolding eventsOf
   written-events =
       by-state (λ (c : Called). take (c .written) (c .events) ≡ eventsFrom ws (take (c .consumed) ss)) (λ h. refl)
-      (λ h. take-append-seam _ _ ∙ fed-events (length out) (wiresOf ws) ss)
+      (λ h. take-append-seam _ _ ∙ feed-takes (length out) (wiresOf ws) ss .events)
 
   -- beyond that the buffer is as it was,
   pub beyond-written : drop (wiresCall ws ss out .written) (wiresCall ws ss out .events) ≡ drop (wiresCall ws ss out .written) out
@@ -138,19 +140,19 @@ module _ (ws ss out : List ℕ) where
   same-length =
       by-state (λ (c : Called). length (c .events) ≡ length out) (λ h. refl)
       (λ h. let es = feedOf (length out) (wiresOf ws) ss .events in
-      length-append es (drop (length es) out) ∙ omega (arith, length-drop (length es) out, fed-within (length out) (wiresOf ws) ss))
+      length-append es (drop (length es) out) ∙ omega (arith, length-drop (length es) out, feed-takes (length out) (wiresOf ws) ss .fits))
 
   -- and the words are those after the samples consumed
   pub words-after : IsState ws → wiresCall ws ss out .words ≡ wordsAfter ws (take (wiresCall ws ss out .consumed) ss)
   words-after s =
       by-state (λ (c : Called). c .words ≡ wordsAfter ws (take (c .consumed) ss)) (λ h. absurd (true-false (sym (stands-exactly ws .1 s) ∙ h)))
-      (λ h. ap wordsOf (fed-wires (length out) (wiresOf ws) ss))
+      (λ h. ap wordsOf (feed-takes (length out) (wiresOf ws) ss .wires))
 
   -- what is handed back after 0, 14 and 15 is a wire state
   pub handed-back : (wiresCall ws ss out .number ≡ 2 → ⊥) → IsState (wiresCall ws ss out .words)
   handed-back =
       by-state (λ (c : Called). (c .number ≡ 2 → ⊥) → IsState (c .words)) (λ h d. absurd (d refl))
-      (λ h d. in-ranges-state _ (feed-in-ranges (length out) (wiresOf ws) ss (state-in-ranges ws (stands-exactly ws .0 h))))
+      (λ h d. in-ranges-state _ (call-in-ranges (length out) (wiresOf ws) (state-in-ranges ws (stands-exactly ws .0 h)) ss))
 
 -- ---- pcf8820_wires_start
 

@@ -8,27 +8,27 @@ use borrow.Author.Tests.{le-leb, eq-eqb, ne-eqb}
 use lib.ListN.{length, take}
 use lib.Seq.{take-length, drop-length}
 use Rattle.wire_samples.specs.Feed.{afterAll, eventsOf, fitting, isAllowed, areSamples, refusalOf, consuming, feedOf, stored}
+use Rattle.wire_traffic.proofs.Rooms.{all-fit, Full, some-fit}
 use Rattle.wire_words.specs.Words.{standsFor, wiresOf}
 use Rattle.wire_words.specs.Calls.{Called, called, afterFeed, wiresCall, eventsFrom, wordsAfter}
 use Rattle.wire_words.specs.When.{StoppedShort}
 use Rattle.wire_words.proofs.Stands.{stands-exactly, words-wires-words, wires-words-wires}
-use Rattle.wire_words.proofs.Rooms.{all-fit, FullAfter, not-all-fit}
 
 -- the buffer is full after k samples
-module _ (ws ss out : List ℕ) (k : ℕ) (f : FullAfter (length out) (wiresOf ws) ss k) where
+module _ (ws ss out : List ℕ) (k : ℕ) (f : Full (length out) (wiresOf ws) ss k) where
   abbrev stop : Called
   stop = called 15 (wordsAfter ws (take k ss)) (eventsFrom ws (take k ss)) k (length out)
 
   stopped : afterFeed (consuming k (wiresOf ws) ss) out ≡ stop
-  stopped = rw (ne-eqb k (length ss) (λ e. omega (arith, e, f .within)), f .full, drop-length out, append-nil (eventsFrom ws (take k ss)))
+  stopped = rw (ne-eqb k (length ss) (λ e. omega (arith, e, f .inside)), f .full, drop-length out, append-nil (eventsFrom ws (take k ss)))
 
   stopped-short : StoppedShort ws ss out stop
   unfolding eventsOf
   stopped-short =
       record {
-        within = f .within;
+        within = f .inside;
         words = refl;
-        tells = rw (wires-words-wires (afterAll (wiresOf ws) (take k ss)), append-nil) (f .tells);
+        tells = rw (wires-words-wires (afterAll (wiresOf ws) (take k ss)), append-nil) (f .next);
         full = refl;
         events = refl;
       }
@@ -63,5 +63,5 @@ module _ (ws ss out : List ℕ) where
       pub outcome-15 : length out < length (eventsFrom ws ss) → (wiresCall ws ss out .number ≡ 15) × StoppedShort ws ss out (wiresCall ws ss out)
       outcome-15 short =
           let k = fitting (length out) (wiresOf ws) ss in
-          let full = not-all-fit (length out) (wiresOf ws) ss short in
+          let full = some-fit (length out) (wiresOf ws) ss short in
           rw (fed k refl ∙ stopped ws ss out k full) (refl, stopped-short ws ss out k full)

@@ -10,11 +10,11 @@ use lib.Seq.{take-length}
 use Rattle.text.proofs.Numbers.{and-both}
 use Rattle.wire_samples.specs.Feed.{afterAll, areSamples, stored}
 use Rattle.wire_samples.proofs.Joined.{after-joined, events-joined}
+use Rattle.wire_traffic.proofs.Rooms.{are-samples}
 use Rattle.wire_words.specs.Words.{IsState, wiresOf, wordsOf}
 use Rattle.wire_words.specs.Calls.{Called, called, wiresCall, eventsFrom, wordsAfter}
 use Rattle.wire_words.specs.When.{When, done}
 use Rattle.wire_words.proofs.Stands.{stands-exactly, wires-words-wires}
-use Rattle.wire_words.proofs.Samples.{samples-exactly}
 use Rattle.wire_words.proofs.Outcomes.{outcome-0}
 use Rattle.wire_words.proofs.Laws.{exactly-when, all-consumed, written-events, words-after}
 
@@ -62,7 +62,7 @@ module _ (ws ss out : List ℕ) (e : wiresCall ws ss out .number ≡ 0) where
   samples = go (exactly-when ws ss out 0 .0 e)
     where
       go : When ws ss out 0 → areSamples ss ≡ true
-      go (done s all room) = samples-exactly ss .1 all
+      go (done s all room) = are-samples ss all
 
   state : IsState ws
   state = go (exactly-when ws ss out 0 .0 e)

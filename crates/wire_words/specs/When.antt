@@ -3,25 +3,16 @@ use mathlib.Core.List.{List, [], _∷_}
 use mathlib.Core.Path.{_≡_}
 use Prim.Native.Nat.{ℕ, _≤_, _<_}
 use lib.ListN.{length, getD, take}
+use Rattle.wire_traffic.specs.When.{Samples, Above}
 use Rattle.wire_words.specs.Words.{IsState}
 use Rattle.wire_words.specs.Calls.{Called, eventsFrom, wordsAfter}
 
--- every sample is 0 to 3
-abbrev pub AllSamples : List ℕ → Type 0
-AllSamples ss = (i : ℕ) → i < length ss → getD ss i 0 ≤ 3
-
--- or one is not
-pub record SomeAbove (ss : List ℕ) : Type 0 where
-  pub place : ℕ
-  pub within : place < length ss
-  pub above : 3 < getD ss place 0
-
 -- 0 is no refusal; the rest in their order
 pub data When (ws ss out : List ℕ) : ℕ → Type 0 where
-  done : IsState ws → AllSamples ss → length (eventsFrom ws ss) ≤ length out → When ws ss out 0
+  done : IsState ws → Samples ss → length (eventsFrom ws ss) ≤ length out → When ws ss out 0
   no-state : (IsState ws → ⊥) → When ws ss out 2
-  above : IsState ws → SomeAbove ss → When ws ss out 14
-  short : IsState ws → AllSamples ss → length out < length (eventsFrom ws ss) → When ws ss out 15
+  above : IsState ws → Above ss → When ws ss out 14
+  short : IsState ws → Samples ss → length out < length (eventsFrom ws ss) → When ws ss out 15
 
 -- after 15: the events before one that found no place fill the buffer; the words are those before its sample, which is the next one
 pub record StoppedShort (ws ss out : List ℕ) (c : Called) : Type 0 where
