@@ -7,5 +7,6 @@ pub mod Chips
 pub mod Glasses
 pub mod Pulses
 pub mod Calls
+pub mod Wires
 pub mod Answers
 pub mod Captures

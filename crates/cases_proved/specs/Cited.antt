@@ -34,6 +34,8 @@ pub use Rattle.pulses.specs.Answer.{pulsesNumber}
 pub use Rattle.pulses.specs.Pulse.{pulsesOf}
 pub use Rattle.pulses.specs.Row.{PulseRow}
 pub use Rattle.record_words.specs.Words.{PINS, PHASE}
+pub use Rattle.wire_words.specs.Words.{UNCLEAR, LAST, STAGE, BITS, VALUE}
+pub use Rattle.wire_words.specs.Calls.{Started, Called}
 pub use Rattle.host.specs.Calls.{Reset, Stepped, Ran}
 pub use Rattle.host.specs.Compiling.{Compiled}
 -- these are opened where a case is computed
@@ -56,6 +58,11 @@ unfoldable pub use Rattle.compiler.specs.Compile.{compileOf}
 unfoldable pub use Rattle.glass.specs.Glass.{placeRefusal, glassRefusal, cellOf, glassOf}
 unfoldable pub use Rattle.pulses.specs.Row.{rowBytes, rowRefusal, rowOf}
 unfoldable pub use Rattle.record_words.specs.Words.{standsFor, chipOf, wordsOf}
+unfoldable pub use Rattle.wire_samples.specs.Signal.{signalOf}
+unfoldable pub use Rattle.wire_samples.specs.Sample.{onStop, onBit, onSignal, sampleOf}
+unfoldable pub use Rattle.wire_samples.specs.Feed.{afterAll, eventsOf, fitting, isAllowed, areSamples, refusalOf as samplesRefusal, feedOf}
+unfoldable pub use Rattle.wire_words.specs.Words.{standsFor as areWires, wiresOf}
+unfoldable pub use Rattle.wire_words.specs.Calls.{startCall, wiresCall}
 unfoldable pub use Rattle.host.specs.Calls.{resetCall, stepCall, runCall}
 unfoldable pub use Rattle.host.specs.Views.{glassCall, placeCall}
 unfoldable pub use Rattle.host.specs.Pulses.{pulsesCall, pulseRowCall}
