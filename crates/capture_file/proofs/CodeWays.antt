@@ -11,6 +11,7 @@ use lib.IntN.{ℤ, pos}
 use lib.ListN.{length, take}
 use lib.Signed.{ltZ}
 use Rattle.io.specs.Counts.{clamped}
+use Rattle.program_io.specs.Answers.{Answer, answerOf, countOf, bytesOf, textOf, lastFailed, mostCalls}
 use Rattle.capture_lines.specs.SoFar.{isRefused}
 use Rattle.capture.specs.declared.Capture.{Capture}
 use Rattle.capture.specs.declared.End.{End}
@@ -20,8 +21,8 @@ use Rattle.capture.specs.Replay.{replayOf}
 use Rattle.capture.proofs.Feeds.{fedResult, text-replayed, fed-end}
 use Rattle.capture.proofs.Laws.{cut-anywhere, rest-unread}
 use Rattle.capture_file.specs.declared.Turn.{Turn}
-use Rattle.capture_file.specs.Answers.{Answer, answerOf, countOf, bytesOf, textOf, lastFailed, Turned, takenIn}
-use Rattle.capture_file.specs.Played.{TurnOfSome, mostCalls, Enough, none-given, refused-for-good, no-more-calls, ReplayOfSome}
+use Rattle.capture_file.specs.Answers.{Turned, takenIn}
+use Rattle.capture_file.specs.Played.{TurnOfSome, Enough, none-given, refused-for-good, no-more-calls, ReplayOfSome}
 
 -- the way through a turn; the number that was answered has gone through the bits of an `isize`
 pub taken :

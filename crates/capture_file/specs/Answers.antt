@@ -1,45 +1,11 @@
--- What a call of read answers, and what a capture makes of it.
-use mathlib.Core.Bool.{Bool, false, not, _&&_}
-use mathlib.Core.List.{List, [], _∷_, _++_}
+-- What a capture makes of an answer.
+use mathlib.Core.Bool.{Bool, not, _&&_}
+use mathlib.Core.List.{List}
 use Prim.Native.Nat.{ℕ}
 use lib.Dec.{ltb}
-use lib.IntN.{ℤ, pos}
-use lib.ListN.{length, take}
-use lib.Signed.{ltZ}
-use Rattle.io.specs.Counts.{clamped}
+use Rattle.program_io.specs.Answers.{Answer, countOf, bytesOf, hasFailed}
 use Rattle.capture.specs.Feeding.{Playing, PartFed, fed, feedOf, isOver}
 use Rattle.capture_file.specs.declared.Turn.{Turn}
-
--- the number that it answers, and the buffer as it leaves it
-pub record Answer : Type 0 where
-  pub got : ℤ
-  pub buffer : List ℕ
-
-abbrev pub answerOf : ℤ → List ℕ → Answer
-answerOf got buffer = record { got = got; buffer = buffer }
-
--- how many bytes it gave: none where it failed
-abbrev pub countOf : Answer → ℕ
-countOf a = clamped (a .got) (length (a .buffer))
-
-abbrev pub bytesOf : Answer → List ℕ
-bytesOf a = take (countOf a) (a .buffer)
-
-abbrev pub hasFailed : Answer → Bool
-hasFailed a = ltZ (a .got) (pos 0)
-
--- ---- the answers to all calls, the last of them first
-
--- what they gave, in the order in which it came
-abbrev pub textOf : List Answer → List ℕ
-textOf [] = []
-textOf (a ∷ before) = textOf before ++ bytesOf a
-
-abbrev pub lastFailed : List Answer → Bool
-lastFailed [] = false
-lastFailed (a ∷ before) = hasFailed a
-
--- ---- the capture
 
 pub record Turned : Type 0 where
   pub after : PartFed

@@ -4,20 +4,17 @@ use mathlib.Core.List.{List, _∷_, _++_}
 use mathlib.Core.Path.{_≡_}
 use Prim.Native.Nat.{ℕ}
 use lib.ListN.{length}
+use Rattle.program_io.specs.Answers.{Answer, countOf, textOf, lastFailed, mostCalls}
 use Rattle.capture.specs.Feeding.{Playing, meaning}
 use Rattle.capture.specs.Replay.{replayOf}
 use Rattle.capture_file.specs.declared.Turn.{Turn}
 use Rattle.capture_file.specs.declared.Played.{Played}
-use Rattle.capture_file.specs.Answers.{Answer, countOf, turned, takenIn, textOf, lastFailed}
+use Rattle.capture_file.specs.Answers.{turned, takenIn}
 
 -- one answer
 pub record TurnOfSome (t : Turn) (m w : List ℕ) (before : Playing) : Type 0 where
   pub answer : Answer
   pub is-taken-in : turned t m w ≡ takenIn answer before
-
--- the most calls that are made
-abbrev pub mostCalls : ℕ
-mostCalls = 18446744073709551615
 
 -- why no further call was made
 pub data Enough (m w : List ℕ) : List Answer → Type 0 where

@@ -4,8 +4,9 @@
 // answers of the system gave, and a program that never reads, as if each answer were 0 bytes, meets that too. That the file's own bytes are played is
 // tested: tests/programs compares the programs with the model's on files and pipes, cut at every place.
 ghost use mathlib.Core.Path.{_≡_};
+ghost use Rattle.program_io.specs.Answers.{answerOf};
 ghost use Rattle.capture.specs.Feeding.{kept};
-ghost use Rattle.capture_file.specs.Answers.{turned, takenIn, answerOf};
+ghost use Rattle.capture_file.specs.Answers.{turned, takenIn};
 ghost use Rattle.capture_file.specs.Played.{TurnOfSome, ReplayOfSome};
 use capture::Capture;
 use capture::End;

@@ -7,12 +7,11 @@ use Prim.Native.Nat.{ℕ, _-_, _<_}
 use lib.IntN.{ℤ}
 use lib.ListN.{length, take}
 use Rattle.io.specs.Counts.{clamped}
+use Rattle.program_io.specs.Answers.{Answer, answerOf, bytesOf, textOf, mostCalls}
 use Rattle.capture.specs.declared.Capture.{Capture}
 use Rattle.capture.specs.declared.End.{End}
 use Rattle.capture.specs.declared.Fed.{Fed}
 use Rattle.capture.specs.Feeding.{Playing, kept, startOf, PartFed, fed, feedOf, isOver, finishOf}
-use Rattle.capture_file.specs.Answers.{Answer, answerOf, bytesOf, textOf}
-use Rattle.capture_file.specs.Played.{mostCalls}
 use Rattle.capture_file.proofs.CodeWays.{FedSoFar, begun, begun-answers, turn-fed, turn-answers, fed-replayed, fed-enough}
 use Rattle.capture_trace.specs.declared.tally.Tally.{Tally}
 use Rattle.capture_trace.specs.Done.{DoneEvent, doneInPart}

@@ -5,10 +5,10 @@ use mathlib.Core.List.{List}
 use mathlib.Core.Path.{_≡_}
 use Prim.Native.Nat.{ℕ}
 use Rattle.print.specs.Printed.{Wrote}
+use Rattle.program_io.specs.Answers.{Answer, textOf, bytesOf, lastFailed}
 use Rattle.capture.specs.Feeding.{Playing, meaning}
 use Rattle.capture.specs.Replay.{replayOf}
 use Rattle.chip.specs.Promised.{isAcknowledged}
-use Rattle.capture_file.specs.Answers.{Answer, textOf, bytesOf, lastFailed}
 use Rattle.capture_file.specs.Played.{TurnOfSome, Enough}
 use Rattle.capture_trace.specs.declared.tally.Tally.{Tally}
 use Rattle.capture_trace.specs.Done.{doneInPart, doneOf}

@@ -6,8 +6,9 @@
 // and their lines printed is tested, as for `capture_file`.
 ghost use mathlib.Core.Path.{_≡_};
 ghost use lib.ListN.{length};
+ghost use Rattle.program_io.specs.Answers.{answerOf, bytesOf};
 ghost use Rattle.capture.specs.Feeding.{kept};
-ghost use Rattle.capture_file.specs.Answers.{turned, takenIn, answerOf, bytesOf};
+ghost use Rattle.capture_file.specs.Answers.{turned, takenIn};
 ghost use Rattle.print.specs.Printed.{Wrote};
 ghost use Rattle.capture_trace.specs.Done.{doneInPart};
 ghost use Rattle.capture_trace.specs.Follow.{toldLines, talliedOver};

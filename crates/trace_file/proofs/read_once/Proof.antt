@@ -1,4 +1,4 @@
-use Rattle.capture_file.specs.Answers.{answerOf}
+use Rattle.program_io.specs.Answers.{answerOf}
 use borrow.Author.Needs.{needs}
 use Rattle.trace_file.proofs.read_once.Statement.{statement}
 use Rattle.trace_file.proofs.read_once.Tie as tie
