@@ -25,14 +25,14 @@ after-top i n h = go (leb (i + n) top) refl
     go true e = omega (arith, leb-true (i + n) top e)
     go false e = refl
 
-after-bound : (i n : ℕ) → placeAfter i n ≤ top
+pub after-bound : (i n : ℕ) → placeAfter i n ≤ top
 after-bound i n = go (leb (i + n) top) refl
   where
     go : (t : Bool) → leb (i + n) top ≡ t → cond t (i + n) top ≤ top
     go true e = leb-true (i + n) top e
     go false e = omega arith
 
-after-after : (i n m : ℕ) → placeAfter (placeAfter i n) m ≡ placeAfter i (n + m)
+pub after-after : (i n m : ℕ) → placeAfter (placeAfter i n) m ≡ placeAfter i (n + m)
 after-after i n m = go (leb (i + n) top) refl
   where
     go : (t : Bool) → leb (i + n) top ≡ t → placeAfter (cond t (i + n) top) m ≡ placeAfter i (n + m)

@@ -1,0 +1,6 @@
+pub mod Samples
+pub mod CodeWays
+pub mod Cuts
+pub mod Bounds
+pub mod Laws
+pub mod Known
