@@ -102,9 +102,9 @@ module _ (w : Wires) (ss es : List ℕ) (pre : (isAllowed w ≡ true) × ((areSa
 
 -- ---- some samples after the other
 
--- what the types of the numbers say, beside the test
-pub in-ranges : (w : Wires) → isAllowed w ≡ true → w .unclear < 2 ^ 64 → w .value < 2 ^ 8 → InRanges w
-in-ranges w a u v = let both = allowed w a in record { unclear = u; last = both .last; bits = both .bits; value = omega arith }
+-- what the type of the value says, beside the test
+pub in-ranges : (w : Wires) → isAllowed w ≡ true → w .value < 2 ^ 8 → InRanges w
+in-ranges w a v = let both = allowed w a in record { last = both .last; bits = both .bits; value = omega arith }
 
 pub ranges-allow : {w : Wires} → InRanges w → isAllowed w ≡ true
 ranges-allow {w} r = is-allowed w (record { last = r .last; bits = r .bits })

@@ -47,7 +47,7 @@ tell-some-requires c κs =
     let from = head .loop .from in
     let end = ended .next-end .result in
     let later = ended .next-end .ensures .2 (ended .before .loop-test .taken) in
-    let ranges = in-ranges (start .args .course .wires) (start .pre .0) (omega (arith, start .good .0)) (omega (arith, start .good .0)) in (
+    let ranges = in-ranges (start .args .course .wires) (start .pre .0) (omega (arith, start .good .0)) in (
       ranges-allow (head .loop .inv .3 .ranges ranges),
       (
         some-good samples from end (omega arith) (omega arith) (start .pre .1),
