@@ -78,9 +78,9 @@
  *
  * Where more than one applies, the lowest is given; the bus and drawing lists have an order of their
  * own. A refused call changes no buffer that it is lent, with two exceptions: a run does the events
- * before its refused one, and the wires give the events that there is room for; these stand. The
- * numbers that a call gives by pointer are results: they are set in every case, refused or not. The
- * count is none of them: it is handed in and back.
+ * before its refused one, and the wires give the events that there is room for, with their state moved
+ * on to there; these stand. The numbers that a call gives by pointer are results: they are set in every
+ * case, refused or not. The count is none of them: it is handed in and back.
  *
  * Every length counts elements, not bytes. The buffers of one call, the count and the results with
  * them, must be valid for their length, aligned, and must not overlap; nothing more is asked of them.
@@ -165,7 +165,7 @@ enum pcf8820_phase {
     PCF8820_PHASE_READ_ENDED = 7
 };
 
-/* The bits of a sample of the wires. */
+/* What a line adds to a sample of the wires where it is high. */
 enum pcf8820_line {
     PCF8820_LINE_SDA = 1,
     PCF8820_LINE_SCL = 2

@@ -34,7 +34,6 @@ static void print_events(FILE *file, uint64_t *state)
         if (written == 1)
             printf("%u\n", event);
     }
-    check_input("wires", file);
 }
 
 static void tell_unclear(uint64_t samples)
@@ -55,5 +54,6 @@ int main(int argc, char **argv)
     model_wires_start(state, WIRE_WORDS);
     print_events(file, state);
     tell_unclear(state[UNCLEAR]);
+    check_input("wires", file);
     return 0;
 }

@@ -230,7 +230,7 @@ def unclear(sides):
 
 
 def lost_samples(sides):
-    """A sample that is lost between two changes of different lines: one unclear sample."""
+    """A sample that is lost: unclear where both lines changed around it, and as the model says anywhere."""
     wires = random_traffic(random.Random(84), 6, 1)
     for place in sides.sample(range(1, len(wires.samples) - 1), 20):
         sides.same(words(), bytes(wires.samples[:place] + wires.samples[place + 1:]))

@@ -20,11 +20,11 @@ fn capture(pins: u8) {
     if !captured.printed {
         return;
     }
+    // Those of the part that was read are told where reading failed behind it, too.
+    unclear::tell(captured.unclear);
     if captured.failed {
         program_io::fail(&name, input.named);
-        return;
     }
-    unclear::tell(captured.unclear);
 }
 
 fn main() {

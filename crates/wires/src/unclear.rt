@@ -1,4 +1,4 @@
-// How many samples were unclear, told to a person: a line on standard error, which a pipe into another program does not swallow.
+// How many samples were unclear, told to a person: a line on standard error, which does not go into a pipe to another program.
 ghost use Rattle.print.specs.Printed.{Wrote};
 ghost use Rattle.wires.specs.Unclear.{unclearLine};
 
