@@ -1,8 +1,8 @@
 -- Ways through the code, over plain variables.
-use mathlib.Core.Bool.{Bool, true, false, cond, not, _&&_}
+use mathlib.Core.Bool.{Bool, true, false, cond, not, _&&_, and-assoc, and-true}
 use mathlib.Core.List.{List}
 use mathlib.Core.Path.{_≡_, refl, sym, _∙_}
-use Prim.Native.Nat.{ℕ, zero, suc, _+_, _<_, _≤_}
+use Prim.Native.Nat.{ℕ, zero, suc, _+_, _*_, _%_, _<_, _≤_}
 use native.Mathlib.Nat.{add-zero}
 use native.Mathlib.Omega.{arith}
 use lib.Dec.{leb}
@@ -18,17 +18,9 @@ use Rattle.wire_samples.specs.declared.sample.Told.the-variants.{Nothing
 use Rattle.wire_samples.specs.declared.sample.Sampled.{Sampled}
 use Rattle.wire_samples.specs.declared.signal.Signal.{Signal}
 use Rattle.wire_samples.specs.declared.signal.Signal.the-variants.{Quiet, Start, Stop, Bit, Unclear}
-use Rattle.wire_samples.specs.Signal.{sclOf, sdaOf, rises, falls, changes, onLines, signalOf}
-use Rattle.wire_samples.specs.Sample.{wires, sampled, quiet, anew, isWaiting, onStop, inMessage, withBit, oneBitMore, byteDone, onBit, onSignal, toldBy}
+use Rattle.wire_samples.specs.Signal.{sclOf, sdaOf, rises, falls, changes, onOneLine, onLines, signalOf}
+use Rattle.wire_samples.specs.Sample.{wires, sampled, quiet, anew, isWaiting, onStop, inMessage, withBit, byteDone, onBit, onSignal, toldBy}
 use Rattle.wire_samples.specs.Feed.{fits, areSamples, refusalOf, asMuchAsFits, feedOf, answerOf, stored}
-
-and-assoc : (a b c : Bool) → (a && b) && c ≡ a && (b && c)
-and-assoc true b c = refl
-and-assoc false b c = refl
-
-and-true : (a : Bool) → a && true ≡ a
-and-true true = refl
-and-true false = refl
 
 -- two tests by what they are of
 pub both : (u v p q t : Bool) → u ≡ p → v ≡ q → u && v ≡ t → p && q ≡ t
@@ -53,7 +45,7 @@ module _ (before s : ℕ) (c₀ d₀ c d : Bool) (e₀ : c₀ ≡ sclOf before) 
     is-unclear t = first _ _ _ (both u v _ _ true eu ev t) ∙ lines
 
     module _ (r : Bool) (er : r ≡ rises c₀ c) (n₁ : u && v ≡ false) where
-      later : (x : Signal) → x ≡ cond (rises c₀ c) (Bit d) (cond ((c₀ && c) && falls d₀ d) Start (cond ((c₀ && c) && rises d₀ d) Stop Quiet)) → x ≡ signalOf before s
+      later : (x : Signal) → x ≡ onOneLine c₀ d₀ c d → x ≡ signalOf before s
       later x h = rest _ _ _ x (both u v _ _ false eu ev n₁) h ∙ lines
 
       pub is-bit : r ≡ true → Bit d ≡ signalOf before s
@@ -103,6 +95,14 @@ module _ (w : Wires) (s : ℕ) where
 
 pub told-fits : (told known : Told) (room : ℕ) → told ≡ known → (t : Bool) → t ≡ fits known room → t ≡ fits told room
 told-fits told known room e t h = rw e h
+
+-- one bit more in a value
+module _ (r v : ℕ) (b : Bool) where
+  pub bit-set : b ≡ true → r ≡ v % 128 * 2 + 1 → r ≡ withBit v b
+  bit-set e h = rw e h
+
+  pub bit-clear : b ≡ false → r ≡ v % 128 * 2 → r ≡ withBit v b
+  bit-clear e h = rw e h
 
 -- what is told, at a place
 module _ (out : List ℕ) (at : ℕ) (told : Told) where

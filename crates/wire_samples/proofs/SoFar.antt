@@ -2,14 +2,14 @@
 use mathlib.Core.Bool.{true, false, cond}
 use mathlib.Core.List.{List, [], _∷_, _++_, append-nil, append-assoc}
 use mathlib.Core.Path.{_≡_, refl, sym, ap, subst, _∙_}
-use Prim.Native.Nat.{ℕ, zero, suc, _+_, _-_, _≤_, _<_}
+use Prim.Native.Nat.{ℕ, suc, _+_, _-_, _≤_, _<_}
 use native.Mathlib.Nat.{add-zero, zero-add, sub-zero}
 use native.Mathlib.Numerals.{add-one}
 use native.Mathlib.Omega.{arith}
 use borrow.Author.Tests.{eq-eqb, ne-eqb, ltb-true}
 use lib.Dec.{eqb}
-use lib.ListN.{length, take, drop, getD, set, length-append, length-drop, drop-of-length-le}
-use lib.Seq.{sets, length-sets, take-suc, take-all, set-at, drop-cons}
+use lib.ListN.{length, take, drop, getD, length-append, length-drop, drop-of-length-le}
+use lib.Seq.{sets, length-sets, take-suc, set-at, drop-cons}
 use Rattle.text.proofs.Finding.{drop-next}
 use Rattle.wire_samples.specs.declared.Wires.{Wires}
 use Rattle.wire_samples.specs.declared.Fed.{Fed}
@@ -17,7 +17,7 @@ use Rattle.wire_samples.specs.declared.sample.Told.{Told}
 use Rattle.wire_samples.specs.declared.sample.Told.the-variants.{Nothing, Event}
 use Rattle.wire_samples.specs.declared.sample.Sampled.{Sampled}
 use Rattle.wire_samples.specs.Sample.{sampleOf, toldBy}
-use Rattle.wire_samples.specs.Feed.{afterSample, eventsAt, afterAll, eventsOf, fits, fitting, consuming, asMuchAsFits, answerOf, stored}
+use Rattle.wire_samples.specs.Feed.{eventsAt, afterAll, eventsOf, fits, fitting, asMuchAsFits, answerOf, stored}
 use Rattle.wire_samples.proofs.Joined.{after-joined, events-joined}
 
 -- ---- what has room

@@ -26,13 +26,19 @@ changes before now = rises before now || falls before now
 
 -- ---- both lines
 
--- Both changed: unclear. The clock rose: a bit, which the data line holds. The data line fell while the clock was high: START; rose: STOP.
-abbrev pub onLines : Bool → Bool → Bool → Bool → Signal
-onLines scl₀ sda₀ scl sda =
-    cond (changes scl₀ scl && changes sda₀ sda) Unclear
-    (cond (rises scl₀ scl) (Bit sda)
+-- The clock rose: a bit, which the data line holds. The data line fell while the clock was high: START; rose: STOP.
+abbrev pub onOneLine : Bool → Bool → Bool → Bool → Signal
+onOneLine scl₀ sda₀ scl sda =
+    cond (rises scl₀ scl) (Bit sda)
     (cond ((scl₀ && scl) && falls sda₀ sda) Start
-    (cond ((scl₀ && scl) && rises sda₀ sda) Stop Quiet)))
+    (cond ((scl₀ && scl) && rises sda₀ sda) Stop Quiet))
+
+-- where both changed nobody knows which did first
+abbrev pub onLines : Bool → Bool → Bool → Bool → Signal
+onLines scl₀ sda₀ scl sda = cond (changes scl₀ scl && changes sda₀ sda) Unclear (onOneLine scl₀ sda₀ scl sda)
+
+abbrev pub bothChange : ℕ → ℕ → Bool
+bothChange before s = changes (sclOf before) (sclOf s) && changes (sdaOf before) (sdaOf s)
 
 unfoldable pub signalOf : ℕ → ℕ → Signal
 signalOf before s = onLines (sclOf before) (sdaOf before) (sclOf s) (sdaOf s)

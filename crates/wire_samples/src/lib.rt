@@ -5,7 +5,7 @@ ghost use Rattle.wire_samples.specs.Sample.{atStart};
 ghost use Rattle.wire_samples.specs.Feed.{feedOf, answerOf, stored};
 
 mod part;
-mod refusal;
+pub mod refusal;
 mod sample;
 mod signal;
 

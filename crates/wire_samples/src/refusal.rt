@@ -3,14 +3,14 @@ ghost use mathlib.Core.Path.{_≡_};
 ghost use Rattle.wire_samples.specs.Feed.{isAllowed, areSamples, refusalOf};
 use crate::Wires;
 
-fn is_allowed(wires: Wires) -> bool
+pub fn is_allowed(wires: Wires) -> bool
     ensures { λ r. ⌜ r ≡ isAllowed wires ⌝ }
 {
     (wires.last <= 3) & (wires.bits <= 8)
 }
 
 // All are looked at, with no way out of the loop: so many of them are tested at a time.
-fn are_samples(samples: &[u8]) -> bool
+pub fn are_samples(samples: &[u8]) -> bool
     ensures { λ r. ⌜ r ≡ areSamples (now (samples .entry)) ⌝ }
 {
     let mut good = true;

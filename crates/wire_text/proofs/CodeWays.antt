@@ -15,14 +15,11 @@ use Rattle.print.specs.Printed.{top, placeAfter, decimalOf, Wrote}
 use Rattle.print.proofs.Writing.{wrote-then, wrote-three, wrote-same, wrote-none, wrote-next}
 use Rattle.wire_samples.specs.declared.Wires.{Wires}
 use Rattle.wire_samples.specs.declared.Fed.{Fed}
-use Rattle.wire_samples.specs.declared.sample.Told.{Told}
-use Rattle.wire_samples.specs.declared.sample.Told.the-variants.{Nothing, Event}
-use Rattle.wire_samples.specs.Sample.{sampleOf, toldBy}
-use Rattle.wire_samples.specs.Feed.{afterSample, eventsAt, afterAll, eventsOf, isAllowed, areSamples, Feed, consuming, feedOf, answerOf, stored}
+use Rattle.wire_samples.specs.Feed.{afterAll, eventsOf, isAllowed, areSamples, Feed, consuming, feedOf, answerOf, stored}
 use Rattle.wire_samples.proofs.Joined.{after-joined, events-joined}
 use Rattle.wire_traffic.specs.When.{InRanges}
 use Rattle.wire_traffic.proofs.Ranges.{all-in-ranges}
-use Rattle.wire_traffic.proofs.Rooms.{allowed, is-allowed, samples, are-samples, with-room}
+use Rattle.wire_traffic.proofs.Rooms.{one-each, allowed, is-allowed, samples, are-samples, with-room}
 use Rattle.wire_text.specs.declared.Reading.{Reading}
 use Rattle.wire_text.specs.Capture.{samplesIn, eventLine, eventLines, lastLine}
 use Rattle.wire_text.specs.Parts.{reading, isOver, firstLine, samplesAfter, partText, afterPart}
@@ -61,21 +58,6 @@ module _ (es : List ℕ) (i : ℕ) where
   lines-end l p t h = wrote-same (ap (linesOf eventLine) (sym (drop-of-length-le es h))) (wrote-none l p t)
 
 -- ---- samples that have room for their events: each tells one at most
-
-told-bound : (t : Told) → length (toldBy t) ≤ 1
-told-bound Nothing = omega arith
-told-bound (Event e) = omega arith
-
-pub one-each : (w : Wires) (ss : List ℕ) → length (eventsOf w ss) ≤ length ss
-unfolding eventsOf
-one-each w [] = omega arith
-one-each w (s ∷ ss) =
-    omega (
-      arith,
-      length-append (eventsAt w s) (eventsOf (afterSample w s) ss),
-      told-bound (sampleOf w s .told),
-      one-each (afterSample w s) ss,
-    )
 
 -- all were fed: f is what the call hands back, and m the buffer after it
 pub record AllFed (w : Wires) (ss : List ℕ) (f : Fed) (m : List ℕ) : Type 0 where

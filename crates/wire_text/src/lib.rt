@@ -2,7 +2,6 @@
 // they tell on a line of its own, and, at a byte that is no sample, the line that says where it stands.
 ghost use mathlib.Core.Path.{_≡_};
 ghost use Rattle.print.specs.Printed.{Wrote, placeAfter};
-ghost use Rattle.wire_samples.specs.Feed.{isAllowed};
 ghost use Rattle.wire_text.specs.Capture.{lastLine};
 ghost use Rattle.wire_text.specs.Parts.{startOf, isOver, firstLine, partText, afterPart};
 use crate::events::Course;
@@ -40,18 +39,12 @@ pub fn start(pins: u8) -> Reading
     }
 }
 
-fn is_allowed(wires: Wires) -> bool
-    ensures { λ r. ⌜ r ≡ isAllowed wires ⌝ }
-{
-    (wires.last <= 3) & (wires.bits <= 8)
-}
-
 // Whether nothing more is told: a byte has come that is no sample, or the wires are none that samples leave.
 pub fn is_over(reading: Reading) -> bool
     ensures { λ r. ⌜ r ≡ isOver reading ⌝ }
 {
     let wires = reading.wires;
-    reading.refused | !is_allowed(wires)
+    reading.refused | !wire_samples::refusal::is_allowed(wires)
 }
 
 // The `pins` line, if this is the first part.

@@ -1,12 +1,12 @@
 -- Samples that are taken in parts: nothing is lost between two calls, and nothing told twice.
 use mathlib.Core.List.{List, [], _∷_, _++_, append-assoc, append-nil}
 use mathlib.Core.Path.{_≡_, refl, sym, ap, _∙_}
-use Prim.Native.Nat.{ℕ, zero, suc, _+_, _≤_, _<_}
+use Prim.Native.Nat.{ℕ, zero, suc, _+_, _≤_}
 use native.Mathlib.Omega.{arith}
-use lib.ListN.{length, take, drop, getD, take-append-drop, length-append}
+use lib.ListN.{length, take, drop, take-append-drop, length-append}
 use lib.Seq.{take-take, take-append-seam, drop-append-seam, take-length, getD-append-add}
 use Rattle.wire_samples.specs.declared.Wires.{Wires}
-use Rattle.wire_samples.specs.Feed.{afterAll, eventsOf, fitting, Feed, refusalOf, unlessRefused, consuming, asMuchAsFits, feedOf, stored}
+use Rattle.wire_samples.specs.Feed.{afterAll, eventsOf, Feed, refusalOf, unlessRefused, consuming, asMuchAsFits, feedOf}
 use Rattle.wire_samples.proofs.Joined.{after-joined, events-joined}
 use Rattle.wire_traffic.specs.Calls.{goneOn, Call, Course, course, fed, found, afterCall, afterCalls, Part, joined, callOf, callsOf, Rooms}
 use Rattle.wire_traffic.specs.When.{Allowed, InRanges, Samples, need, When}

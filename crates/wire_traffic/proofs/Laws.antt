@@ -1,13 +1,19 @@
 -- What is promised of samples, in one place: read this file first. The work stands in the files beside it.
+use mathlib.Core.Bool.{true}
 use mathlib.Core.List.{List, [], _++_}
 use mathlib.Core.Logic.{_↔_}
-use mathlib.Core.Path.{_≡_}
-use Prim.Native.Nat.{ℕ, suc, _+_, _≤_}
+use mathlib.Core.Path.{_≡_, refl}
+use Prim.Native.Nat.{ℕ, suc, _+_, _≤_, _<_}
 use lib.ListN.{length}
+use Rattle.wire_samples.specs.declared.Stage.the-variants.{Waiting, First}
 use Rattle.wire_samples.specs.declared.Wires.{Wires}
-use Rattle.wire_samples.specs.Sample.{atStart}
-use Rattle.wire_samples.specs.Feed.{afterAll, eventsOf, consuming, refusalOf, feedOf}
+use Rattle.wire_samples.specs.declared.signal.Signal.the-variants.{Start, Stop}
+use Rattle.wire_samples.specs.declared.sample.Told.the-variants.{Event}
+use Rattle.wire_samples.specs.Signal.{bothChange, signalOf}
+use Rattle.wire_samples.specs.Sample.{atStart, anew, onStop, onSignal, sampleOf}
+use Rattle.wire_samples.specs.Feed.{afterSample, eventsAt, afterAll, eventsOf, consuming, refusalOf, feedOf}
 use Rattle.wire_traffic.specs.Calls.{goneOn, Call, Course, course, afterCalls, Part, joined, callsOf, Rooms}
+use Rattle.wire_traffic.specs.Traffic.{canBeTold}
 use Rattle.wire_traffic.specs.Unclear.{howManyUnclear, most, atMost}
 use Rattle.wire_traffic.specs.When.{Allowed, InRanges, Samples, need, When}
 use Rattle.wire_traffic.proofs.Cuts as Cuts
@@ -31,9 +37,40 @@ module _ (room : ℕ) (w : Wires) (ss : List ℕ) where
   pub full : feedOf room w ss .refusal ≡ 15 → Rooms.Full room w ss (feedOf room w ss .consumed)
   full = Rooms.full room w ss
 
+  -- whatever the number: the wires and the events are those of the samples that were consumed, which are no more than came, and the events have room
+  pub takes : Cuts.Takes room w ss (feedOf room w ss)
+  takes = Cuts.feed-takes room w ss
+
+  -- a call that has room for one event at least does not stand still
+  pub some-consumed : feedOf room w ss .refusal ≡ 15 → 0 < room → 0 < feedOf room w ss .consumed
+  some-consumed = Rooms.some-consumed room w ss
+
   -- with room all samples are consumed, and all their events told
   pub with-room : Allowed w → Samples ss → need w ss ≤ room → feedOf room w ss ≡ consuming (length ss) w ss
   with-room = Rooms.with-room room w ss
+
+-- a sample tells one event at most, so that a buffer as long as the samples is never too short
+pub one-each : (w : Wires) (ss : List ℕ) → need w ss ≤ length ss
+one-each = Rooms.one-each
+
+-- ---- START, STOP, and samples that are unclear
+
+module _ (w : Wires) (s : ℕ) where
+  -- at every state START is told, and opens a first byte with no bit taken
+  pub start-law : signalOf (w .last) s ≡ Start → sampleOf w s ≡ anew w s First (Event 256)
+  unfolding sampleOf onSignal
+  start-law e = rw e refl
+
+  -- STOP is told but while START is waited for, and leaves no bit taken
+  pub stop-law : signalOf (w .last) s ≡ Stop → sampleOf w s ≡ onStop w s
+  unfolding sampleOf onSignal
+  stop-law e = rw e refl
+
+  -- an unclear sample tells nothing, and whatever samples come behind it, the first event that they tell is a START
+  pub waits-for-start :
+      bothChange (w .last) s ≡ true
+      → (eventsAt w s ≡ []) × ((ss : List ℕ) → canBeTold Waiting (eventsOf (afterSample w s) ss) ≡ true)
+  waits-for-start = Unclear.waits-for-start w s
 
 -- ---- ranges, and the count of unclear samples
 

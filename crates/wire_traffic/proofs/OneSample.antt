@@ -10,7 +10,7 @@ use Rattle.wire_samples.specs.declared.Wires.{Wires}
 use Rattle.wire_samples.specs.declared.signal.Signal.{Signal}
 use Rattle.wire_samples.specs.declared.signal.Signal.the-variants.{Quiet, Start, Stop, Bit, Unclear}
 use Rattle.wire_samples.specs.declared.sample.Told.the-variants.{Nothing, Event}
-use Rattle.wire_samples.specs.Signal.{sclOf, sdaOf, rises, falls, changes, onLines, signalOf}
+use Rattle.wire_samples.specs.Signal.{sclOf, sdaOf, rises, falls, changes, onLines, bothChange, signalOf}
 use Rattle.wire_samples.specs.Sample.{quiet, anew, isWaiting, onStop, inMessage, oneBitMore, byteDone, onBit, onSignal, sampleOf, toldBy}
 use Rattle.wire_samples.specs.Feed.{afterSample, afterAll, eventsOf}
 use Rattle.wire_traffic.proofs.Runs.{Tell}
@@ -52,7 +52,7 @@ module _ (w : Wires) (s : ℕ) where
         go false false true = stop-kept
         go false false false = record { last = refl; unclear = refl }
 
-  pub none-counted : not (changes (sclOf (w .last)) (sclOf s) && changes (sdaOf (w .last)) (sdaOf s)) ≡ true → afterSample w s .unclear ≡ w .unclear
+  pub none-counted : not (bothChange (w .last) s) ≡ true → afterSample w s .unclear ≡ w .unclear
   unfolding sampleOf signalOf
   none-counted e = clear-kept (sclOf (w .last)) (sdaOf (w .last)) (sclOf s) (sdaOf s) (not-true _ e) .unclear
 

@@ -3,12 +3,12 @@ use mathlib.Core.Bool.{Bool, true, false, cond, _&&_}
 use mathlib.Core.List.{List, [], _∷_, _++_}
 use mathlib.Core.Logic.{_↔_}
 use mathlib.Core.Path.{_≡_, refl, sym, ap, subst, _∙_}
-use Prim.Native.Nat.{ℕ, zero, suc, _+_, _-_, _≤_, _<_}
+use Prim.Native.Nat.{ℕ, zero, suc, _-_, _≤_, _<_}
 use native.Mathlib.Nat.{sub-zero}
 use native.Mathlib.Omega.{arith}
-use borrow.Author.Tests.{lt-ltb, le-ltb, le-leb, lt-leb, leb-true, leb-false, eq-eqb, ne-eqb}
-use lib.Dec.{T, leb, eqb}
-use lib.ListN.{length, take, drop, getD}
+use borrow.Author.Tests.{lt-ltb, le-leb, leb-true, leb-false, eq-eqb, ne-eqb}
+use lib.Dec.{T, leb}
+use lib.ListN.{length, take, getD, length-append}
 use lib.Seq.{take-length}
 use Rattle.text.proofs.Numbers.{and-both}
 use Rattle.wire_samples.specs.declared.Wires.{Wires}
@@ -18,6 +18,24 @@ use Rattle.wire_samples.specs.Sample.{sampleOf, toldBy}
 use Rattle.wire_samples.specs.Feed.{afterSample, eventsAt, afterAll, eventsOf, fits, fitting, isAllowed, areSamples, refusalOf, consuming, asMuchAsFits, unlessRefused, Feed, feedOf}
 use Rattle.wire_traffic.specs.When.{Allowed, Samples, Above, need, When}
 use Rattle.wire_traffic.specs.When.When.{state, sample, short, none}
+
+-- ---- how many events
+
+told-bound : (t : Told) → length (toldBy t) ≤ 1
+told-bound Nothing = omega arith
+told-bound (Event e) = omega arith
+
+-- a sample tells one at most, so that a buffer as long as the samples is never too short
+pub one-each : (w : Wires) (ss : List ℕ) → need w ss ≤ length ss
+unfolding eventsOf
+one-each w [] = omega arith
+one-each w (s ∷ ss) =
+    omega (
+      arith,
+      length-append (eventsAt w s) (eventsOf (afterSample w s) ss),
+      told-bound (sampleOf w s .told),
+      one-each (afterSample w s) ss,
+    )
 
 -- ---- how many samples
 
@@ -176,6 +194,15 @@ module _ (room : ℕ) (w : Wires) (ss : List ℕ) where
     where
       go : When room w ss 15 → Full room w ss (feedOf room w ss .consumed)
       go (short a b h) = rw (taken a b) (some-fit room w ss h)
+
+  -- a call that has room for an event consumes a sample at least
+  pub some-consumed : feedOf room w ss .refusal ≡ 15 → 0 < room → 0 < feedOf room w ss .consumed
+  unfolding eventsOf
+  some-consumed e h = go (feedOf room w ss .consumed) (full e)
+    where
+      go : (k : ℕ) → Full room w ss k → 0 < k
+      go zero f = absurd (omega (arith, f .full, h))
+      go (suc k) f = omega arith
 
   -- 2 and 14: nothing is consumed, nothing told, and the wires are those that came
   pub nothing-taken :

@@ -14,7 +14,7 @@ use Rattle.wire_samples.specs.declared.signal.Signal.the-variants.{Quiet, Start
 use Rattle.wire_samples.specs.declared.sample.Told.the-variants.{Nothing, Event}
 use Rattle.wire_samples.specs.declared.sample.Sampled.{Sampled}
 use Rattle.wire_samples.specs.Signal.{signalOf}
-use Rattle.wire_samples.specs.Sample.{quiet, anew, isWaiting, onStop, inMessage, withBit, stageAfter, eventOf}
+use Rattle.wire_samples.specs.Sample.{quiet, anew, isWaiting, onStop, inMessage, stageAfter, eventOf}
 use Rattle.wire_samples.specs.Sample.{oneBitMore, byteDone, onBit, onSignal, sampleOf, toldBy}
 use Rattle.wire_samples.specs.Feed.{afterSample, eventsOf}
 use Rattle.wire_traffic.specs.Traffic.{stageOnByte, canTell, stageTold, canBeTold}

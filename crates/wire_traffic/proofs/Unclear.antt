@@ -1,5 +1,5 @@
 -- The count of unclear samples: those where both lines changed, and no others, up to the largest number.
-use mathlib.Core.Bool.{Bool, true, false, cond, _&&_}
+use mathlib.Core.Bool.{Bool, true, false, cond}
 use mathlib.Core.List.{List, [], _∷_}
 use mathlib.Core.Path.{_≡_, refl, sym, ap, subst, _∙_}
 use Prim.Native.Nat.{ℕ, _+_, _≤_}
@@ -7,29 +7,17 @@ use native.Mathlib.Nat.{add-zero, zero-add}
 use native.Mathlib.Omega.{arith}
 use borrow.Author.Tests.{eqb-true, eqb-false, le-leb, leb-true}
 use lib.Dec.{T, eqb, leb}
+use Rattle.wire_samples.specs.declared.Stage.the-variants.{Waiting}
 use Rattle.wire_samples.specs.declared.Wires.{Wires}
-use Rattle.wire_samples.specs.declared.signal.Signal.{Signal}
-use Rattle.wire_samples.specs.declared.signal.Signal.the-variants.{Quiet, Start, Stop, Bit, Unclear}
-use Rattle.wire_samples.specs.Signal.{sclOf, sdaOf, rises, falls, signalOf}
-use Rattle.wire_samples.specs.Sample.{countedUp, onSignal, sampleOf}
-use Rattle.wire_samples.specs.Feed.{afterSample, afterAll}
-use Rattle.wire_traffic.specs.Unclear.{bothChange, howManyUnclear, most, atMost}
+use Rattle.wire_samples.specs.declared.signal.Signal.the-variants.{Unclear}
+use Rattle.wire_samples.specs.Signal.{sclOf, sdaOf, onOneLine, bothChange, signalOf}
+use Rattle.wire_samples.specs.declared.sample.Sampled.{Sampled}
+use Rattle.wire_samples.specs.Sample.{countedUp, onUnclear, onSignal, sampleOf, toldBy}
+use Rattle.wire_samples.specs.Feed.{afterSample, eventsAt, afterAll, eventsOf}
+use Rattle.wire_traffic.specs.Traffic.{canBeTold}
+use Rattle.wire_traffic.specs.Unclear.{howManyUnclear, most, atMost}
 use Rattle.wire_traffic.proofs.OneSample.{none-counted, last-sample}
-
--- what is said where not both lines changed
-abbrev unlessBoth : Wires → ℕ → Signal
-unlessBoth w s =
-    cond (rises (sclOf (w .last)) (sclOf s)) (Bit (sdaOf s))
-    (cond ((sclOf (w .last) && sclOf s) && falls (sdaOf (w .last)) (sdaOf s)) Start
-    (cond ((sclOf (w .last) && sclOf s) && rises (sdaOf (w .last)) (sdaOf s)) Stop Quiet))
-
-one-counted : (w : Wires) (s : ℕ) → bothChange (w .last) s ≡ true → afterSample w s .unclear ≡ countedUp (w .unclear)
-unfolding sampleOf onSignal signalOf
-one-counted w s e = go (bothChange (w .last) s) e
-  where
-    go : (t : Bool) → t ≡ true → onSignal w s (cond t Unclear (unlessBoth w s)) .wires .unclear ≡ countedUp (w .unclear)
-    go true e = refl
-    go false e = absurd (subst T (sym e) tt)
+use Rattle.wire_traffic.proofs.Told.{told-can}
 
 one-on : (u n : ℕ) → u + 1 + n ≡ u + (1 + n)
 one-on u n = omega arith
@@ -40,6 +28,27 @@ over n h = go (leb n most) refl
     go : (t : Bool) → leb n most ≡ t → cond t n most ≡ most
     go true e = omega (arith, h, leb-true n most e)
     go false e = refl
+
+-- the wires after an unclear sample, whatever they were
+becomes-waiting : (w : Wires) (s : ℕ) → bothChange (w .last) s ≡ true → sampleOf w s ≡ onUnclear w s
+unfolding sampleOf onSignal signalOf
+becomes-waiting w s e = go (bothChange (w .last) s) e
+  where
+    go : (t : Bool) → t ≡ true → onSignal w s (cond t Unclear (onOneLine (sclOf (w .last)) (sdaOf (w .last)) (sclOf s) (sdaOf s))) ≡ onUnclear w s
+    go true e = refl
+    go false e = absurd (subst T (sym e) tt)
+
+one-counted : (w : Wires) (s : ℕ) → bothChange (w .last) s ≡ true → afterSample w s .unclear ≡ countedUp (w .unclear)
+one-counted w s e = ap (λ (x : Sampled). x .wires .unclear) (becomes-waiting w s e)
+
+pub waits-for-start :
+    (w : Wires) (s : ℕ) → bothChange (w .last) s ≡ true
+    → (eventsAt w s ≡ []) × ((ss : List ℕ) → canBeTold Waiting (eventsOf (afterSample w s) ss) ≡ true)
+waits-for-start w s e =
+    let is = becomes-waiting w s e in (
+      ap (λ (x : Sampled). toldBy (x .told)) is,
+      λ ss. ap (λ (x : Sampled). canBeTold Waiting (eventsOf (x .wires) ss)) is ∙ told-can (onUnclear w s .wires) (omega arith) ss,
+    )
 
 -- one more and then n are n more from the next number, which is no further than the largest
 next-number : (u n : ℕ) → u ≤ most → (countedUp u ≤ most) × (atMost (countedUp u + n) ≡ atMost (u + (1 + n)))

@@ -4,10 +4,9 @@ use mathlib.Core.List.{List, [], _∷_, _++_}
 use mathlib.Core.Path.{_≡_, refl}
 use Prim.Native.Nat.{ℕ, _+_}
 use Rattle.wire_samples.specs.declared.Stage.the-variants.{Outside}
-use Rattle.wire_samples.specs.declared.Wires.{Wires}
 use Rattle.wire_samples.specs.Signal.{signalOf}
 use Rattle.wire_samples.specs.Sample.{wires, atStart, onStop, onBit, onSignal, sampleOf}
-use Rattle.wire_samples.specs.Feed.{afterAll, eventsOf, fitting, isAllowed, areSamples, refusalOf, Feed, feedOf}
+use Rattle.wire_samples.specs.Feed.{afterAll, eventsOf, fitting, isAllowed, areSamples, refusalOf, feedOf}
 
 -- the lines while bits go over them: the data line is set while the clock is low, then the clock rises and falls
 abbrev bits : List ℕ → List ℕ
@@ -38,7 +37,7 @@ pub byte-is-not-told-at-its-eighth-bit : eventsOf atStart (start ++ bits (0 ∷ 
 unfolding eventsOf sampleOf onSignal onBit onStop signalOf
 byte-is-not-told-at-its-eighth-bit = refl
 
--- the clock has risen nine times and fallen eight times
+-- at the ninth rise; a reader that takes its bits where the clock falls would have the one of START and eight more, and tell 60
 pub bit-is-not-taken-at-the-fall : eventsOf atStart (start ++ bits (0 ∷ 1 ∷ 1 ∷ 1 ∷ 1 ∷ 0 ∷ 0 ∷ 0 ∷ []) ++ (0 ∷ 2 ∷ [])) ≡ 256 ∷ 120 ∷ []
 unfolding eventsOf sampleOf onSignal onBit onStop signalOf
 bit-is-not-taken-at-the-fall = refl
@@ -79,6 +78,18 @@ stop-without-start-is-told = refl
 pub bits-are-not-kept-over-a-start : eventsOf atStart (start ++ bits (1 ∷ 1 ∷ 1 ∷ []) ++ again ++ bits address) ≡ 256 ∷ 256 ∷ 120 ∷ []
 unfolding eventsOf sampleOf onSignal onBit onStop signalOf
 bits-are-not-kept-over-a-start = refl
+
+-- eight bits, the last of them where the clock rises for START
+pub eight-bits-are-not-kept-over-a-start :
+    eventsOf atStart (start ++ bits (1 ∷ 0 ∷ 1 ∷ 0 ∷ 1 ∷ 0 ∷ 1 ∷ []) ++ again ++ bits address) ≡ 256 ∷ 256 ∷ 120 ∷ []
+unfolding eventsOf sampleOf onSignal onBit onStop signalOf
+eight-bits-are-not-kept-over-a-start = refl
+
+-- nor over a STOP under the clock of a bit, and a START behind it
+pub bits-are-not-kept-over-a-stop :
+    eventsOf atStart (start ++ bits (1 ∷ 1 ∷ 1 ∷ []) ++ (0 ∷ 2 ∷ 3 ∷ []) ++ start ++ bits address) ≡ 256 ∷ 257 ∷ 256 ∷ 120 ∷ []
+unfolding eventsOf sampleOf onSignal onBit onStop signalOf
+bits-are-not-kept-over-a-stop = refl
 
 -- of a read, where the next message writes
 pub direction-is-not-kept-over-a-start : eventsOf atStart (start ++ bits (0 ∷ 1 ∷ 1 ∷ 1 ∷ 1 ∷ 0 ∷ 0 ∷ 1 ∷ 0 ∷ []) ++ again ++ bits address ++ bits address) ≡ 256 ∷ 121 ∷ 256 ∷ 120 ∷ 120 ∷ []

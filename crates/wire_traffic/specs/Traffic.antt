@@ -7,7 +7,7 @@ use lib.ListN.{length, replicate}
 use Rattle.wire_samples.specs.declared.Stage.{Stage}
 use Rattle.wire_samples.specs.declared.Stage.the-variants.{Outside, Waiting, First, Writing, Reading}
 use Rattle.wire_samples.specs.declared.Wires.{Wires}
-use Rattle.wire_samples.specs.Signal.{sclOf, sdaOf, changes}
+use Rattle.wire_samples.specs.Signal.{bothChange}
 use Rattle.wire_samples.specs.Sample.{wires, isWaiting}
 use Rattle.wire_samples.specs.Feed.{Feed}
 
@@ -162,7 +162,7 @@ carriedBy es = map carriedOf es
 
 -- 0 to 3, and at most one line changes from the sample before
 abbrev pub isClean : ℕ → ℕ → Bool
-isClean before s = leb s 3 && not (changes (sclOf before) (sclOf s) && changes (sdaOf before) (sdaOf s))
+isClean before s = leb s 3 && not (bothChange before s)
 
 unfoldable pub areClean : ℕ → List ℕ → Bool
 areClean before [] = true

@@ -1,15 +1,11 @@
 -- How many samples are unclear, by the samples alone.
-use mathlib.Core.Bool.{Bool, cond, _&&_}
+use mathlib.Core.Bool.{cond}
 use mathlib.Core.List.{List, [], _∷_}
 use Prim.Native.Nat.{ℕ, _+_}
 use lib.Dec.{leb}
-use Rattle.wire_samples.specs.Signal.{sclOf, sdaOf, changes}
+use Rattle.wire_samples.specs.Signal.{bothChange}
 
--- both lines changed
-abbrev pub bothChange : ℕ → ℕ → Bool
-bothChange before s = changes (sclOf before) (sclOf s) && changes (sdaOf before) (sdaOf s)
-
--- the first is held against the sample before
+-- those where both lines changed; the first is held against the sample before
 unfoldable pub howManyUnclear : ℕ → List ℕ → ℕ
 howManyUnclear before [] = 0
 howManyUnclear before (s ∷ ss) = cond (bothChange before s) 1 0 + howManyUnclear s ss

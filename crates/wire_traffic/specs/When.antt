@@ -1,6 +1,5 @@
 -- When a call is refused, in the words of the request and not as tests.
 use mathlib.Core.List.{List}
-use mathlib.Core.Path.{_≡_}
 use Prim.Native.Nat.{ℕ, _≤_, _<_}
 use lib.ListN.{length, getD}
 use Rattle.wire_samples.specs.declared.Wires.{Wires}

@@ -1,6 +1,6 @@
 -- The calls that start and feed a wire state: which number they give exactly when, how they leave the buffers, and that a state which is handed back
 -- is not refused by 2 in the next call. (Stands: words and wires. Ranges: what samples keep. Parts: several calls.)
-use mathlib.Core.Bool.{Bool, true, false, cond}
+use mathlib.Core.Bool.{Bool, true, false, cond, true≢false}
 use mathlib.Core.List.{List, [], _∷_}
 use mathlib.Core.Logic.{_↔_}
 use mathlib.Core.Path.{_≡_, refl, sym, ap, _∙_, subst}
@@ -18,7 +18,7 @@ use Rattle.wire_traffic.proofs.Rooms as Rooms
 use Rattle.wire_words.specs.Words.{stateLength, standsFor, IsState, wiresOf, wordsOf}
 use Rattle.wire_words.specs.Calls.{Started, started, startCall, Called, called, afterFeed, wiresCall, eventsFrom, wordsAfter}
 use Rattle.wire_words.specs.When.{When, done, no-state, above, short, StoppedShort}
-use Rattle.wire_words.proofs.Stands.{true-false, stands-exactly}
+use Rattle.wire_words.proofs.Stands.{stands-exactly}
 use Rattle.wire_words.proofs.Ranges.{in-ranges-state, state-in-ranges}
 use Rattle.wire_words.proofs.Outcomes.{outcome-0, outcome-2, outcome-14, outcome-15}
 
@@ -42,7 +42,7 @@ module _ (ws ss out : List ℕ) where
           (t a r : Bool) → standsFor ws ≡ t → areSamples ss ≡ a → leb (length (eventsFrom ws ss)) (length out) ≡ r
           → When ws ss out (wiresCall ws ss out .number)
       go false a r ht ha hr =
-          rw (outcome-2 ws ss out ht) (no-state (λ s. true-false (sym (stands-exactly ws .1 s) ∙ ht)))
+          rw (outcome-2 ws ss out ht) (no-state (λ s. true≢false (sym (stands-exactly ws .1 s) ∙ ht)))
       go true false r ht ha hr = rw (outcome-14 ws ss out ht ha) (above (stands-exactly ws .0 ht) (Rooms.above ss ha))
       go true true false ht ha hr =
           let few = leb-false (length (eventsFrom ws ss)) (length out) hr in
@@ -145,7 +145,7 @@ module _ (ws ss out : List ℕ) where
   -- and the words are those after the samples consumed
   pub words-after : IsState ws → wiresCall ws ss out .words ≡ wordsAfter ws (take (wiresCall ws ss out .consumed) ss)
   words-after s =
-      by-state (λ (c : Called). c .words ≡ wordsAfter ws (take (c .consumed) ss)) (λ h. absurd (true-false (sym (stands-exactly ws .1 s) ∙ h)))
+      by-state (λ (c : Called). c .words ≡ wordsAfter ws (take (c .consumed) ss)) (λ h. absurd (true≢false (sym (stands-exactly ws .1 s) ∙ h)))
       (λ h. ap wordsOf (feed-takes (length out) (wiresOf ws) ss .wires))
 
   -- what is handed back after 0, 14 and 15 is a wire state

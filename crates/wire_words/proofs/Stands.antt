@@ -16,9 +16,6 @@ use Rattle.wire_samples.specs.Sample.{wires}
 use Rattle.wire_words.specs.declared.words.Read.the-variants.{State, NoState}
 use Rattle.wire_words.specs.Words.{stateLength, standsFor, IsState, stageOf, stageNumber, wiresOf, wordsOf, readOf}
 
-pub true-false : true ≡ false → ⊥
-true-false e = let z : _≡_ {A = ℕ} 0 1 = cc in omega arith
-
 -- what holds of five words spelled out holds of every list of that length
 pub in-five : (P : List ℕ → Type 0) → ((a b c d e : ℕ) → P (a ∷ b ∷ c ∷ d ∷ e ∷ [])) → (l : List ℕ) → length l ≡ stateLength → P l
 in-five P h (a ∷ b ∷ c ∷ d ∷ e ∷ []) n = h a b c d e

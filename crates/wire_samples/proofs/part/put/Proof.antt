@@ -1,4 +1,3 @@
-use mathlib.Core.Path.{refl}
 use Rattle.wire_samples.proofs.CodeWays.{put-room, put-nothing, put-event}
 use borrow.Author.Needs.{needs}
 use Rattle.wire_samples.proofs.part.put.Statement.{statement}

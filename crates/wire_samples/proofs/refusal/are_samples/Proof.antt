@@ -2,7 +2,7 @@ use Rattle.wire_samples.proofs.CodeWays.{tested-one, tested-all}
 use Rattle.wire_samples.specs.Feed.{areSamples}
 use mathlib.Core.Bool.{_&&_}
 use mathlib.Core.Path.{_≡_, refl, sym, _∙_}
-use Prim.Native.Nat.{_-_, _≤_, _<_}
+use Prim.Native.Nat.{_-_, _≤_}
 use lib.ListN.{length, drop}
 use borrow.Author.Needs.{needs}
 use Rattle.wire_samples.proofs.refusal.are_samples.Statement.{statement}
