@@ -9,7 +9,7 @@ use lib.Dec.{leb}
 use lib.ListN.{length, set, getD, drop, drop-of-length-le}
 use lib.Seq.{sets}
 use Rattle.text.proofs.Finding.{drop-next}
-use borrow.Author.Tests.{lt-ltb, le-ltb, not-true, not-false}
+use borrow.Author.Tests.{lt-ltb, le-ltb, eq-eqb, ne-eqb, not-true, not-false}
 use Rattle.wire_samples.specs.declared.Stage.the-variants.{Outside, Waiting}
 use Rattle.wire_samples.specs.declared.Wires.{Wires}
 use Rattle.wire_samples.specs.declared.Fed.{Fed}
@@ -20,7 +20,7 @@ use Rattle.wire_samples.specs.declared.signal.Signal.{Signal}
 use Rattle.wire_samples.specs.declared.signal.Signal.the-variants.{Quiet, Start, Stop, Bit, Unclear}
 use Rattle.wire_samples.specs.Signal.{sclOf, sdaOf, rises, falls, changes, onOneLine, onLines, signalOf}
 use Rattle.wire_samples.specs.Sample.{wires, sampled, quiet, anew, isWaiting, onStop, inMessage, withBit, byteDone, onBit, onSignal, toldBy}
-use Rattle.wire_samples.specs.Feed.{fits, areSamples, refusalOf, asMuchAsFits, feedOf, answerOf, stored}
+use Rattle.wire_samples.specs.Feed.{fits, repeats, areSamples, refusalOf, asMuchAsFits, feedOf, answerOf, stored}
 
 -- two tests by what they are of
 pub both : (u v p q t : Bool) → u ≡ p → v ≡ q → u && v ≡ t → p && q ≡ t
@@ -125,6 +125,20 @@ module _ (ss : List ℕ) (at : ℕ) (good : Bool) where
   pub tested-all : length ss ≤ at → good && areSamples (drop at ss) ≡ good
   unfolding areSamples
   tested-all h = rw (drop-of-length-le ss h) (and-true good)
+
+-- the last sample again
+module _ (ss : List ℕ) (at last : ℕ) where
+  pub repeats-end : at < length ss → (getD ss at 0 ≡ last → ⊥) → at + repeats last (drop at ss) ≡ at
+  unfolding repeats
+  repeats-end h n = rw (drop-next ss at h, ne-eqb (getD ss at 0) last n) (add-zero at)
+
+  pub repeats-on : at < length ss → getD ss at 0 ≡ last → at + 1 + repeats last (drop (at + 1) ss) ≡ at + repeats last (drop at ss)
+  unfolding repeats
+  repeats-on h e = rw (drop-next ss at h, eq-eqb (getD ss at 0) last e) (omega arith)
+
+  pub repeats-past : length ss ≤ at → at + repeats last (drop at ss) ≡ at
+  unfolding repeats
+  repeats-past h = rw (drop-of-length-le ss h) (add-zero at)
 
 -- ---- the call
 

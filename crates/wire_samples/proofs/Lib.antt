@@ -1,3 +1,4 @@
+pub mod Again
 pub mod CodeWays
 pub mod Joined
 pub mod SoFar

@@ -1,12 +1,12 @@
 -- The loop over the samples: what holds after i of them, with n events stored, and what it comes to where it ends.
-use mathlib.Core.Bool.{true, false, cond}
+use mathlib.Core.Bool.{Bool, true, false, cond}
 use mathlib.Core.List.{List, [], _∷_, _++_, append-nil, append-assoc}
 use mathlib.Core.Path.{_≡_, refl, sym, ap, subst, _∙_}
 use Prim.Native.Nat.{ℕ, suc, _+_, _-_, _≤_, _<_}
 use native.Mathlib.Nat.{add-zero, zero-add, sub-zero}
 use native.Mathlib.Numerals.{add-one}
 use native.Mathlib.Omega.{arith}
-use borrow.Author.Tests.{eq-eqb, ne-eqb, ltb-true}
+use borrow.Author.Tests.{eq-eqb, ne-eqb, eqb-true, ltb-true}
 use lib.Dec.{eqb}
 use lib.ListN.{length, take, drop, getD, length-append, length-drop, drop-of-length-le}
 use lib.Seq.{sets, length-sets, take-suc, set-at, drop-cons}
@@ -16,8 +16,9 @@ use Rattle.wire_samples.specs.declared.Fed.{Fed}
 use Rattle.wire_samples.specs.declared.sample.Told.{Told}
 use Rattle.wire_samples.specs.declared.sample.Told.the-variants.{Nothing, Event}
 use Rattle.wire_samples.specs.declared.sample.Sampled.{Sampled}
-use Rattle.wire_samples.specs.Sample.{sampleOf, toldBy}
-use Rattle.wire_samples.specs.Feed.{eventsAt, afterAll, eventsOf, fits, fitting, asMuchAsFits, answerOf, stored}
+use Rattle.wire_samples.specs.Sample.{sampled, sampleOf, toldBy}
+use Rattle.wire_samples.specs.Feed.{eventsAt, afterAll, eventsOf, fits, fitting, repeats, asMuchAsFits, answerOf, stored}
+use Rattle.wire_samples.proofs.Again.{seen-again}
 use Rattle.wire_samples.proofs.Joined.{after-joined, events-joined}
 
 -- ---- what has room
@@ -144,3 +145,45 @@ module _ (w₀ : Wires) (ss out₀ : List ℕ) where
             (n′ : ℕ) (out′ : List ℕ) → out′ ≡ sets out n (toldBy (r .told)) → n′ ≡ n + length (toldBy (r .told))
             → (length out′ ≡ length out₀) × SoFar (i + 1) n′ (r .wires) out′
         put-on n′ out′ p q = rw (p, q) (length-sets out n (toldBy (r .told)) ∙ same-length, goes-on)
+
+  -- ---- the last sample again
+
+  -- one is consumed, and all else is as it was
+  one-again : {i n : ℕ} {w : Wires} {out : List ℕ} → SoFar i n w out → i < length ss → getD ss i 0 ≡ w .last → SoFar (i + 1) n w out
+  one-again {i} {n} {w} {out} s h e =
+      let same : sampled w Nothing ≡ sampleOf w (getD ss i 0) = sym (seen-again w) ∙ ap (sampleOf w) (sym e) in
+      put-on s h (sampled w Nothing) same refl n out refl (sym (add-zero n)) .1
+
+  pub all-again :
+      {i n : ℕ} {w : Wires} {out : List ℕ} (rest : List ℕ) → rest ≡ drop i ss → i ≤ length ss → SoFar i n w out
+      → (i + repeats (w .last) rest ≤ length ss) × SoFar (i + repeats (w .last) rest) n w out
+  unfolding repeats
+  all-again {i} {n} {w} {out} [] e h s = rw (add-zero i) (h, s)
+  all-again {i} {n} {w} {out} (x ∷ rest) e h s = go (eqb x (w .last)) refl (λ h′ s′ e′. all-again {i = i + 1} rest e′ h′ s′)
+    where
+      inside : i < length ss
+      inside = omega (arith, ap length e, length-drop i ss)
+
+      first : x ∷ rest ≡ getD ss i 0 ∷ drop (i + 1) ss
+      first = e ∙ drop-next ss i inside
+
+      go :
+          (t : Bool) → eqb x (w .last) ≡ t
+          → (i + 1 ≤ length ss → SoFar (i + 1) n w out → rest ≡ drop (i + 1) ss
+          → (i + 1 + repeats (w .last) rest ≤ length ss) × SoFar (i + 1 + repeats (w .last) rest) n w out)
+          → (i + cond t (suc (repeats (w .last) rest)) 0 ≤ length ss) × SoFar (i + cond t (suc (repeats (w .last) rest)) 0) n w out
+      go false q ih = rw (add-zero i) (h, s)
+      go true q ih =
+          let is : x ≡ getD ss i 0 = ap (λ (l : List ℕ). getD l 0 0) first in
+          let tail : rest ≡ drop (i + 1) ss = ap (λ (l : List ℕ). drop 1 l) first in
+          let more = ih (omega (arith, inside)) (one-again s inside (sym is ∙ eqb-true x (w .last) q)) tail in
+          let next : i + suc (repeats (w .last) rest) ≡ i + 1 + repeats (w .last) rest = omega arith in
+          rw next more
+
+  -- up to the place that was found, the last sample being known by another name
+  pub skipped :
+      {i n : ℕ} {w : Wires} {out : List ℕ} → SoFar i n w out → i ≤ length ss → (last at : ℕ) → w .last ≡ last
+      → at ≡ i + repeats last (drop i ss) → (i ≤ at) × ((at ≤ length ss) × SoFar at n w out)
+  skipped {i} s h last at l e =
+      let all = all-again (drop i ss) refl h s in
+      rw (e, ← l) (omega arith, all)

@@ -41,6 +41,11 @@ fitting room w [] = 0
 fitting room w (s ∷ ss) =
     cond (fits (sampleOf w s .told) room) (suc (fitting (room - length (eventsAt w s)) (afterSample w s) ss)) 0
 
+-- how many samples at the front are this one again
+unfoldable pub repeats : ℕ → List ℕ → ℕ
+repeats last [] = 0
+repeats last (s ∷ ss) = cond (eqb s last) (suc (repeats last ss)) 0
+
 -- ---- the call
 
 pub record Feed : Type 0 where

@@ -1,11 +1,11 @@
 // Samples in order, up to the first event that has no room.
 ghost use mathlib.Core.Path.{_≡_};
 ghost use Prim.Native.Nat.{_+_, _≤_};
-ghost use lib.ListN.{length};
+ghost use lib.ListN.{length, drop};
 ghost use lib.Seq.{sets};
 ghost use Rattle.wire_samples.specs.Sample.{toldBy};
 ghost use Rattle.wire_samples.specs.Feed as spec;
-ghost use Rattle.wire_samples.specs.Feed.{asMuchAsFits, answerOf, stored};
+ghost use Rattle.wire_samples.specs.Feed.{repeats, asMuchAsFits, answerOf, stored};
 use crate::Fed;
 use crate::Wires;
 use crate::sample::Told;
@@ -34,16 +34,31 @@ fn put(told: Told, events: &mut [u16], at: usize) -> usize
     }
 }
 
+// Behind the samples from a place on that are the last one again. These tell nothing, and a probe that samples often gives many of them.
+fn unchanged(samples: &[u8], from: usize, last: u8) -> usize
+    ensures { λ r. ⌜ r ≡ from + repeats last (drop from (now (samples .entry))) ⌝ }
+{
+    let mut at = from;
+    while at < samples.len() {
+        if samples[at] != last {
+            return at;
+        }
+        at += 1;
+    }
+    at
+}
+
 pub fn read(wires: Wires, samples: &[u8], events: &mut [u16]) -> Fed
     ensures { λ r. ⌜ r ≡ answerOf (asMuchAsFits (length (now (events .entry))) wires (now (samples .entry))) ⌝ }
     ensures { λ r. ⌜ now (events .exit)
         ≡ stored (asMuchAsFits (length (now (events .entry))) wires (now (samples .entry)) .events) (now (events .entry)) ⌝ }
 {
     let mut now_wires = wires;
-    let mut at = 0;
+    let mut at = unchanged(samples, 0, wires.last);
     let mut written = 0;
     while at < samples.len() {
-        let sampled = crate::sample::sample(now_wires, samples[at]);
+        let sample = samples[at];
+        let sampled = crate::sample::sample(now_wires, sample);
         let told = sampled.told;
         let behind = at + 1;
         if !fits(told, events.len() - written) {
@@ -56,7 +71,7 @@ pub fn read(wires: Wires, samples: &[u8], events: &mut [u16]) -> Fed
         }
         written = put(told, events, written);
         now_wires = sampled.wires;
-        at = behind;
+        at = unchanged(samples, behind, sample);
     }
     Fed {
         wires: now_wires,

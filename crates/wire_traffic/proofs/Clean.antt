@@ -7,9 +7,10 @@ use lib.Dec.{leb}
 use Rattle.text.proofs.Numbers.{and-both}
 use Rattle.wire_samples.specs.declared.Wires.{Wires}
 use Rattle.wire_samples.specs.Feed.{afterSample, afterAll, areSamples}
+use Rattle.wire_samples.proofs.Again.{last-sample}
 use Rattle.wire_traffic.specs.Traffic.{Carried, start, stop, byte, Lines, idle, held, low, levelOf, bitSamples, bitsSamples}
 use Rattle.wire_traffic.specs.Traffic.{bitsOf, byteSamples, samplesFor, linesAfter, samplesOf, isClean, areClean}
-use Rattle.wire_traffic.proofs.OneSample.{none-counted, last-sample}
+use Rattle.wire_traffic.proofs.OneSample.{none-counted}
 
 -- ---- what carries traffic
 

@@ -1,4 +1,4 @@
--- One sample of any wires: the wires keep it, count it only where it is unclear, and seeing it again does nothing.
+-- One sample of any wires: they count it only where it is unclear, and seeing it again does nothing.
 use mathlib.Core.Bool.{Bool, true, false, cond, not, _&&_}
 use mathlib.Core.List.{[], _∷_, _++_}
 use mathlib.Core.Path.{_≡_, refl, ap}
@@ -7,12 +7,13 @@ use borrow.Author.Tests.{not-true}
 use lib.Dec.{ltb}
 use Rattle.wire_samples.specs.declared.Stage.the-variants.{Outside, Waiting}
 use Rattle.wire_samples.specs.declared.Wires.{Wires}
-use Rattle.wire_samples.specs.declared.signal.Signal.{Signal}
-use Rattle.wire_samples.specs.declared.signal.Signal.the-variants.{Quiet, Start, Stop, Bit, Unclear}
+use Rattle.wire_samples.specs.declared.sample.Sampled.{Sampled}
+use Rattle.wire_samples.specs.declared.signal.Signal.the-variants.{Quiet, Start, Stop, Bit}
 use Rattle.wire_samples.specs.declared.sample.Told.the-variants.{Nothing, Event}
 use Rattle.wire_samples.specs.Signal.{sclOf, sdaOf, rises, falls, changes, onLines, bothChange, signalOf}
 use Rattle.wire_samples.specs.Sample.{quiet, anew, isWaiting, onStop, inMessage, oneBitMore, byteDone, onBit, onSignal, sampleOf, toldBy}
 use Rattle.wire_samples.specs.Feed.{afterSample, afterAll, eventsOf}
+use Rattle.wire_samples.proofs.Again.{seen-again}
 use Rattle.wire_traffic.proofs.Runs.{Tell}
 
 -- ---- what every signal leaves
@@ -56,30 +57,12 @@ module _ (w : Wires) (s : ℕ) where
   unfolding sampleOf signalOf
   none-counted e = clear-kept (sclOf (w .last)) (sdaOf (w .last)) (sclOf s) (sdaOf s) (not-true _ e) .unclear
 
-  pub last-sample : afterSample w s .last ≡ s
-  unfolding sampleOf onSignal
-  last-sample = go (signalOf (w .last) s)
-    where
-      go : (g : Signal) → onSignal w s g .wires .last ≡ s
-      go Quiet = refl
-      go Start = refl
-      go Stop = stop-kept .last
-      go (Bit b) = bit-kept b .last
-      go Unclear = refl
-
 -- ---- the same sample again
 
-same-lines : (c d : Bool) → onLines c d c d ≡ Quiet
-same-lines true true = refl
-same-lines true false = refl
-same-lines false true = refl
-same-lines false false = refl
-
 pub again : (w : Wires) → Tell w (w .last ∷ []) [] w
-unfolding afterAll eventsOf sampleOf onSignal signalOf
+unfolding afterAll eventsOf
 again w =
-    let same = same-lines (sclOf (w .last)) (sdaOf (w .last)) in
     record {
-      events = ap (λ (g : Signal). toldBy (onSignal w (w .last) g .told) ++ []) same;
-      after = ap (λ (g : Signal). onSignal w (w .last) g .wires) same;
+      events = ap (λ (r : Sampled). toldBy (r .told) ++ []) (seen-again w);
+      after = ap (λ (r : Sampled). r .wires) (seen-again w);
     }

@@ -9,8 +9,9 @@ use Rattle.text.proofs.Numbers.{and-both}
 use Rattle.wire_samples.specs.declared.Wires.{Wires}
 use Rattle.wire_samples.specs.Signal.{sclOf, changes}
 use Rattle.wire_samples.specs.Feed.{afterSample, eventsAt, afterAll, eventsOf}
+use Rattle.wire_samples.proofs.Again.{last-sample}
 use Rattle.wire_traffic.specs.Traffic.{isClean, areClean, stretched}
-use Rattle.wire_traffic.proofs.OneSample.{last-sample, again}
+use Rattle.wire_traffic.proofs.OneSample.{again}
 use Rattle.wire_traffic.proofs.Runs.{Tell, tell-on}
 
 -- ---- what they tell

@@ -14,9 +14,10 @@ use Rattle.wire_samples.specs.Signal.{sclOf, sdaOf, onOneLine, bothChange, sign
 use Rattle.wire_samples.specs.declared.sample.Sampled.{Sampled}
 use Rattle.wire_samples.specs.Sample.{countedUp, onUnclear, onSignal, sampleOf, toldBy}
 use Rattle.wire_samples.specs.Feed.{afterSample, eventsAt, afterAll, eventsOf}
+use Rattle.wire_samples.proofs.Again.{last-sample}
 use Rattle.wire_traffic.specs.Traffic.{canBeTold}
 use Rattle.wire_traffic.specs.Unclear.{howManyUnclear, most, atMost}
-use Rattle.wire_traffic.proofs.OneSample.{none-counted, last-sample}
+use Rattle.wire_traffic.proofs.OneSample.{none-counted}
 use Rattle.wire_traffic.proofs.Told.{told-can}
 
 one-on : (u n : ℕ) → u + 1 + n ≡ u + (1 + n)

@@ -1,8 +1,10 @@
-use Rattle.wire_samples.proofs.SoFar.{SoFar, begins, short, has-room, put-on, all-read}
-use mathlib.Core.Path.{_≡_, refl, sym, _∙_}
+use Rattle.wire_samples.proofs.Again.{last-sample}
+use Rattle.wire_samples.proofs.SoFar.{SoFar, begins, short, has-room, put-on, skipped, all-read}
+use mathlib.Core.Path.{_≡_, refl, sym, ap, _∙_}
 use native.Mathlib.Omega.{arith}
 use Prim.Native.Nat.{_-_, _≤_}
 use lib.ListN.{length}
+use Rattle.wire_samples.specs.declared.sample.Sampled.{Sampled}
 use borrow.Author.Needs.{needs}
 use borrow.Author.Tests.{not-true, not-false}
 use Rattle.wire_samples.proofs.part.read.Statement.{statement}
@@ -15,8 +17,13 @@ Inv-loop samples events₀ now-wires₀ at₀ written₀ events now-wires at wri
 abbrev μ-loop : tie.MeasureT-loop
 μ-loop samples events₀ now-wires₀ at₀ written₀ events now-wires at written = length samples - at
 
+unchanged-requires : tie.Need-unchanged-requires Inv-loop μ-loop
+unchanged-requires c κs = search needs
+
 loop-holds : tie.Need-loop-holds Inv-loop μ-loop
-loop-holds c = (search needs, refl, begins _ _ _)
+loop-holds c =
+    let there = skipped _ _ _ (begins _ _ _) (omega arith) _ _ refl (c .unchanged .ensures) in
+    (there .1 .0, refl, there .1 .1)
 
 shared-slice-read-sample : tie.Need-shared-slice-read-sample Inv-loop μ-loop
 shared-slice-read-sample c = search needs
@@ -51,20 +58,27 @@ put-requires c κs =
     let sampled = c .before .before .before .sample .ensures in
     has-room _ _ _ (at-head .2) inside _ sampled (sym (c .before .before .fits2 .ensures) ∙ not-false _ (c .before .if1 .left))
 
+unchanged-requires-2 : tie.Need-unchanged-requires-2 Inv-loop μ-loop
+unchanged-requires-2 c κs = search needs
+
 loop-less : tie.Need-loop-less Inv-loop μ-loop
-loop-less c = search needs
+loop-less c =
+    let test = c .before .before .before .before .before .before .before .before .before .before in
+    omega (arith, c .unchanged2 .ensures, test .loop-test .taken)
 
 loop-again : tie.Need-loop-again Inv-loop μ-loop
 loop-again c =
-    let fitted = c .before .before .before .before .before in
+    let fitted = c .before .before .before .before .before .before in
     let sampled = fitted .before .before in
     let test = sampled .before .before in
     let at-head = test .before .loop .inv in
-    let put = c .before .before .before .put .ensures in
+    let put = c .before .before .before .before .put .ensures in
     let goes =
     put-on _ _ _ (at-head .2) (test .loop-test .taken) _ (sampled .sample .ensures)
     (sym (fitted .before .fits2 .ensures) ∙ not-false _ (fitted .if1 .left)) _ _ (put .0) (put .1) in
-    (search needs, goes .0, goes .1)
+    let last = ap (λ (r : Sampled). r .wires .last) (sampled .sample .ensures) ∙ last-sample _ _ in
+    let there = skipped _ _ _ (goes .1) (omega (arith, test .loop-test .taken)) _ _ last (c .unchanged2 .ensures) in
+    (there .1 .0, goes .0, there .1 .1)
 
 same-length-2 : tie.Need-same-length-2 Inv-loop μ-loop
 same-length-2 c = search needs
@@ -81,6 +95,7 @@ read-spec =
     (tie.spec
     Inv-loop
     μ-loop
+    unchanged-requires
     loop-holds
     shared-slice-read-sample
     sample-requires
@@ -90,6 +105,7 @@ read-spec =
     same-length
     returns
     put-requires
+    unchanged-requires-2
     loop-less
     loop-again
     same-length-2
