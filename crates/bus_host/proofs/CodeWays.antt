@@ -10,8 +10,8 @@ use Rattle.engine.specs.declared.answer.Answer.{Answer}
 use Rattle.engine.specs.Event.{numberOf}
 use Rattle.bus.specs.Bus.{bus}
 use Rattle.bus.specs.Step.{busAfter, busStepOf}
-use Rattle.bus_step.specs.declared.Chips.{Chips}
-use Rattle.bus_step.specs.Four.{four}
+use Rattle.bus_refusals.specs.declared.Chips.{Chips}
+use Rattle.bus_refusals.specs.Four.{four}
 use Rattle.record_words.specs.declared.Read.{Read}
 use Rattle.record_words.specs.declared.Read.the-variants as words
 use Rattle.record_words.specs.Words.{standsFor, chipOf, readOf, stored}

@@ -6,7 +6,7 @@ use lib.Dec.{eqb}
 use lib.ListN.{length}
 use Rattle.registers.specs.State.{places}
 use Rattle.bus.specs.Bus.{Device, device}
-use Rattle.bus_step.specs.declared.Chips.{Chips}
+use Rattle.bus_refusals.specs.declared.Chips.{Chips}
 use Rattle.record_words.specs.Words.{standsFor, chipOf, wordsOf}
 use Rattle.bus_host.specs.declared.FourRead.{FourRead}
 use Rattle.bus_host.specs.declared.FourRead.the-variants.{Records, NoRecord}

@@ -1,37 +1,20 @@
 -- Steps through the code of a bus event, over plain variables.
-use mathlib.Core.Bool.{Bool, true, false, cond, not, _&&_, _||_}
+use mathlib.Core.Bool.{Bool, true, false, cond, _&&_}
 use mathlib.Core.List.{List, [], _∷_, map}
 use mathlib.Core.Path.{_≡_, refl, sym, ap, _∙_}
-use Prim.Native.Nat.{ℕ, zero, suc, _+_, _-_, _^_}
-use native.Mathlib.Nat.{add-zero}
-use borrow.Author.Tests.{eqb-false}
-use lib.Dec.{eqb, leb, ltb}
-use Rattle.registers.specs.Refusals.{refuse, _then_, isListedEvent}
+use Prim.Native.Nat.{ℕ, zero, suc, _+_}
+use Rattle.registers.specs.Refusals.{_then_}
 use Rattle.registers.proofs.Below.{and-true}
-use Rattle.registers.proofs.Refusals.{then-zero, refuse-none}
 use Rattle.engine.specs.declared.answer.Answer.{Answer}
 use Rattle.engine.specs.declared.answer.Answer.the-variants.{Refused, Nothing}
 use Rattle.engine.specs.Event.{eventOf}
 use Rattle.engine.specs.Step.{After, stepOf}
-use Rattle.bus.specs.Bus.{Device, Bus, bus, At, alone, every, isIdlePhase, isAwaitingPhase, isPastPhase, hasOtherPins, phasesAgree}
+use Rattle.bus.specs.Bus.{Device, Bus, bus, At, alone, every, hasOtherPins}
 use Rattle.bus.specs.Refusals.{isLong, devicesRefusalFor, devicesRefusal, isSensorReading, sentRefusal, busRefusal}
 use Rattle.bus.specs.Step.{misses, heardBy, deviceAfter, unanswered, orElse, BusAfter, busAfter, busAccepted, unlessRefused, busStepOf}
-use Rattle.bus_step.specs.declared.Chips.{Chips}
 use Rattle.bus.proofs.Answers.{heard-as-alone}
 use Rattle.bus.proofs.Phases as Phases
-use Rattle.bus_step.specs.Four.{recordsOf, isInMessage, allOfFour, manyOfFour}
 use Rattle.bus_step.specs.Part.{Part, part, partIn, partOf, deviceBy, answerBy}
-
--- ---- which chips can share a bus
-
-pub phases-told :
-    (c : Chips) (idle awaiting past : Bool)
-    → idle ≡ allOfFour isIdlePhase (c .chip0 .phase) (c .chip1 .phase) (c .chip2 .phase) (c .chip3 .phase)
-    → awaiting ≡ allOfFour isAwaitingPhase (c .chip0 .phase) (c .chip1 .phase) (c .chip2 .phase) (c .chip3 .phase)
-    → past ≡ allOfFour isInMessage (c .chip0 .phase) (c .chip1 .phase) (c .chip2 .phase) (c .chip3 .phase)
-    && leb (manyOfFour isPastPhase (c .chip0 .phase) (c .chip1 .phase) (c .chip2 .phase) (c .chip3 .phase)) 1
-    → idle || (awaiting || past) ≡ phasesAgree (recordsOf c)
-phases-told c idle awaiting past i w p = simp (i, w, p, and-true, add-zero)
 
 -- ---- one chip
 
@@ -80,21 +63,11 @@ module _ (e k : ℕ) (b : Bus) (h : busRefusal e k b ≡ 0) where
 
 -- ---- the step
 
-pub then-told : (r x y first later : ℕ) → r ≡ x then y → x ≡ first → y ≡ later → r ≡ first then later
-then-told r x y first later told e f = told ∙ rw (e, f)
-
 unless-refused :
     (x r : ℕ) (a : BusAfter) (b : Bus) → r ≡ x → (r ≡ 0 → ⊥)
     → busAfter (Refused r) (b .devices) (b .count) ≡ unlessRefused x a b
 unless-refused zero r a b e n = absurd (n e)
 unless-refused (suc x) r a b e n = ap (λ (y : ℕ). busAfter (Refused y) (b .devices) (b .count)) e
-
-pub room : (e k n : ℕ) → sentRefusal e k n ≡ 0 → n ≡ 2 ^ 64 - 1 → ⊥
-unfolding sentRefusal
-room e k n none =
-    let sent =
-    then-zero (refuse (not (isListedEvent e)) 3) (refuse (isSensorReading e && ltb 3 k) 13 then refuse (eqb n (2 ^ 64 - 1)) 4) none .1 in
-    eqb-false n (2 ^ 64 - 1) (refuse-none _ 3 (then-zero (refuse (isSensorReading e && ltb 3 k) 13) _ sent .1))
 
 module _
     (e k n r : ℕ) (l0 l1 l2 l3 : Bool) (a b c d : Device)

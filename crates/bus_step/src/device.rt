@@ -25,7 +25,7 @@ pub fn hear(
         ≡ partOf event pins count (device chip (now (memory .entry)) (now (writers .entry))) ⌝ }
 {
     let own_pins = chip.pins as u64;
-    if crate::refusal::is_sensor_reading(event) & (own_pins != pins) {
+    if bus_refusals::is_sensor_reading(event) & (own_pins != pins) {
         return Heard {
             answer: Answer::Nothing,
             chip,

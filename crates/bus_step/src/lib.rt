@@ -3,23 +3,14 @@ ghost use mathlib.Core.Path.{_≡_};
 ghost use mathlib.Core.List.{map};
 ghost use Rattle.bus.specs.Bus.{bus};
 ghost use Rattle.bus.specs.Step.{busAfter, busStepOf};
-ghost use Rattle.bus_step.specs.Four.{four};
+ghost use Rattle.bus_refusals.specs.Four.{four};
 ghost use Rattle.bus_step.specs.Part.{deviceBy, answerBy};
+use bus_refusals::Chips;
+use bus_refusals::is_long;
 use engine::answer::Answer;
-use registers::Chip;
 
 mod answer;
 mod device;
-pub mod refusal;
-mod sharing;
-
-// The four records, in the order of their memories.
-pub struct Chips {
-    pub chip0: Chip,
-    pub chip1: Chip,
-    pub chip2: Chip,
-    pub chip3: Chip,
-}
 
 // What the bus answers, and the chips after the event.
 struct Delivered {
@@ -100,11 +91,10 @@ pub fn step(
         ≡ busStepOf event pins (bus (four chips (now (memory0 .entry)) (now (writers0 .entry)) (now (memory1 .entry)) (now (writers1 .entry))
         (now (memory2 .entry)) (now (writers2 .entry)) (now (memory3 .entry)) (now (writers3 .entry))) count) ⌝ }
 {
-    let long = refusal::is_long(memory0.len(), writers0.len())
-        & (refusal::is_long(memory1.len(), writers1.len())
-            & (refusal::is_long(memory2.len(), writers2.len())
-                & refusal::is_long(memory3.len(), writers3.len())));
-    let refused = refusal::of_step(event, pins, chips, count, long);
+    let long = is_long(memory0.len(), writers0.len())
+        & (is_long(memory1.len(), writers1.len())
+            & (is_long(memory2.len(), writers2.len()) & is_long(memory3.len(), writers3.len())));
+    let refused = bus_refusals::of_step(event, pins, chips, count, long);
     if refused != 0 {
         return BusStepped {
             answer: Answer::Refused(refused),
