@@ -9,7 +9,6 @@ use bus_refusals::Chips;
 use bus_refusals::is_long;
 use engine::answer::Answer;
 
-mod answer;
 mod device;
 
 // What the bus answers, and the chips after the event.
@@ -61,7 +60,7 @@ fn deliver(
     let chip2 = heard2.chip;
     let chip3 = heard3.chip;
     Delivered {
-        answer: answer::of_four(event, answer0, answer1, answer2, answer3),
+        answer: bus_answers::of_four(event, answer0, answer1, answer2, answer3),
         chips: Chips {
             chip0,
             chip1,

@@ -1,7 +1,7 @@
 use borrow.Author.Tests.{ne-eqb}
 use borrow.Author.Needs.{needs}
-use Rattle.bus_step.proofs.answer.or_else.Statement.{statement}
-use Rattle.bus_step.proofs.answer.or_else.Tie as tie
+use Rattle.bus_answers.proofs.or_else.Statement.{statement}
+use Rattle.bus_answers.proofs.or_else.Tie as tie
 
 enum-known-answer : tie.Need-enum-known-answer
 enum-known-answer c = search needs

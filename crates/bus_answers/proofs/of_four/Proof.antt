@@ -1,6 +1,6 @@
 use borrow.Author.Needs.{needs}
-use Rattle.bus_step.proofs.answer.of_four.Statement.{statement}
-use Rattle.bus_step.proofs.answer.of_four.Tie as tie
+use Rattle.bus_answers.proofs.of_four.Statement.{statement}
+use Rattle.bus_answers.proofs.of_four.Tie as tie
 
 of-requires : tie.Need-of-requires
 of-requires c κs = search needs
