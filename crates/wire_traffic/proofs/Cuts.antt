@@ -129,7 +129,7 @@ all-told cs w ss e =
 
 -- ---- parts with room
 
-samples-parts : (xs ys : List ℕ) → Samples (xs ++ ys) → Samples xs × Samples ys
+pub samples-parts : (xs ys : List ℕ) → Samples (xs ++ ys) → Samples xs × Samples ys
 samples-parts xs ys h = (
   rw (← take-append-seam xs ys) (samples-front (length xs) (xs ++ ys) h),
   λ i inside. rw (← getD-append-add xs ys i 0) (h (length xs + i) (omega (arith, inside, length-append xs ys))),
