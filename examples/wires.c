@@ -69,7 +69,7 @@ static size_t next_part(uint8_t *samples)
     return length;
 }
 
-/* There is no event on the wires that the chip would refuse. */
+/* The chip refuses none of the events that can stand on the wires, but for a full count. */
 static void play(const uint16_t *events, uint64_t length)
 {
     uint64_t done, unknown, out_of_range;

@@ -82,6 +82,7 @@ mutant 'pins line before a file that cannot be read' 's/^    look_ahead(file);//
 mutant 'directory taken for an empty input' 's/^    check_input.*//'
 
 groups=messages
+mutant 'unclear samples not told where reading fails' 's/^    tell_unclear(state\[UNCLEAR\]);/    check_input("wires", file); &/'
 mutant 'pins line before a directory' 's/^    look_ahead(file);/    printf("pins\\t%" PRIu64 "\\n", pins); &/'
 mutant 'unclear samples called otherwise' 's/unclear sample%s/unclear change%s/'
 mutant 'unclear samples without the name' 's/"wires: %"/"%"/'

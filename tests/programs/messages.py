@@ -203,6 +203,18 @@ def long_lists(sides):
     sides.says(["draw", "0"], message("draw", b"standard input", b"longer than 1048576 bytes"), text)
 
 
+def unread_behind_a_part(sides):
+    """Where reading fails behind a part, its lines are printed, and its unclear samples told before that."""
+    reason = message("wires", b"standard input", b"Resource temporarily unavailable")
+    start = b"pins\t2\n256\n"
+    for samples, said in ((b"\2", b""), (b"\2\1", message("wires", b"1 unclear sample"))):
+        for dash in [], ["-"]:
+            sides.says_of_failing_pipe(["wires", "2"] + dash, samples, said + reason, start)
+    lines = b"1\t256\tstart\t-\n"
+    reason = message("trace", b"standard input", b"Resource temporarily unavailable")
+    sides.says_of_failing_pipe(["trace"], b"pins\t0\n256\n", reason, lines)
+
+
 def unclear_samples(sides):
     """Told behind the capture, with their number; before a byte that is no sample, too. A refusal alone is not told."""
     start = b"pins\t3\n256\n"
@@ -218,4 +230,4 @@ def unclear_samples(sides):
 
 
 THEMES = [helps, help_among_others, wrong_numbers_of_words, two_inputs, pins, pixels, unopened, long_names, odd_names,
-          unread, refused_captures, refused_lists, long_lists, unclear_samples]
+          unread, refused_captures, refused_lists, long_lists, unread_behind_a_part, unclear_samples]

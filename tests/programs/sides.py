@@ -193,10 +193,23 @@ class Sides:
             os.close(stdin)
         self.left(words, done, said, b"")
 
-    def left(self, words, done, said, output):
+    def says_of_failing_pipe(self, words, data, said, output):
+        """The same, with a pipe as standard input that gives DATA in one read and fails in the next, as it has no more and
+        does not wait."""
+        stdin, other = os.pipe()
+        try:
+            os.set_blocking(stdin, False)
+            os.write(other, data)
+            done = finish(begin(self.words(self.programs, words), stdin), None)
+        finally:
+            os.close(stdin)
+            os.close(other)
+        self.left(words, done, said, output, True)
+
+    def left(self, words, done, said, output, fails=False):
         wrong = None
         # Where a status is asked for, a call that fails says something and has another than 0.
-        failed = self.with_status and output == b"" and said != b""
+        failed = self.with_status and (fails or output == b"" and said != b"")
         if done.status < 0 or (done.status != 0) != failed:
             wrong = f"status {done.status}, with standard error {shown(done.said)}"
         elif done.said != said:

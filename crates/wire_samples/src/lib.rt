@@ -41,7 +41,7 @@ pub struct Fed {
     pub refusal: u8,
 }
 
-// Before the first sample: both lines are high.
+// What the first sample is held against: two high lines, and no message open.
 pub fn start() -> Wires
     ensures { λ r. ⌜ r ≡ atStart ⌝ }
 {

@@ -1,16 +1,16 @@
 -- What is promised of samples, in one place: read this file first. The work stands in the files beside it.
-use mathlib.Core.Bool.{true}
-use mathlib.Core.List.{List, [], _++_}
+use mathlib.Core.Bool.{true, false}
+use mathlib.Core.List.{List, [], _∷_, _++_, map}
 use mathlib.Core.Logic.{_↔_}
 use mathlib.Core.Path.{_≡_, refl}
 use Prim.Native.Nat.{ℕ, suc, _+_, _≤_, _<_}
 use lib.ListN.{length}
-use Rattle.wire_samples.specs.declared.Stage.the-variants.{Waiting, First}
+use Rattle.wire_samples.specs.declared.Stage.the-variants.{Outside, Waiting, First}
 use Rattle.wire_samples.specs.declared.Wires.{Wires}
-use Rattle.wire_samples.specs.declared.signal.Signal.the-variants.{Start, Stop}
-use Rattle.wire_samples.specs.declared.sample.Told.the-variants.{Event}
+use Rattle.wire_samples.specs.declared.signal.Signal.the-variants.{Quiet, Start, Stop, Bit, Unclear}
+use Rattle.wire_samples.specs.declared.sample.Told.the-variants.{Nothing, Event}
 use Rattle.wire_samples.specs.Signal.{bothChange, signalOf}
-use Rattle.wire_samples.specs.Sample.{atStart, anew, onStop, onSignal, sampleOf}
+use Rattle.wire_samples.specs.Sample.{atStart, anew, isWaiting, onStop, onSignal, sampleOf}
 use Rattle.wire_samples.specs.Feed.{afterSample, eventsAt, afterAll, eventsOf, consuming, refusalOf, feedOf}
 use Rattle.wire_traffic.specs.Calls.{goneOn, Call, Course, course, afterCalls, Part, joined, callsOf, Rooms}
 use Rattle.wire_traffic.specs.Traffic.{canBeTold}
@@ -53,6 +53,19 @@ module _ (room : ℕ) (w : Wires) (ss : List ℕ) where
 pub one-each : (w : Wires) (ss : List ℕ) → need w ss ≤ length ss
 one-each = Rooms.one-each
 
+-- ---- what two samples say
+
+-- a row for each sample before, a column for each sample: clock and data line both low, data high, clock high, both high
+pub sixteen-signals :
+    map (λ (before : ℕ). map (signalOf before) (0 ∷ 1 ∷ 2 ∷ 3 ∷ [])) (0 ∷ 1 ∷ 2 ∷ 3 ∷ [])
+    ≡ (Quiet ∷ Quiet ∷ Bit false ∷ Unclear ∷ [])
+    ∷ (Quiet ∷ Quiet ∷ Unclear ∷ Bit true ∷ [])
+    ∷ (Quiet ∷ Unclear ∷ Quiet ∷ Stop ∷ [])
+    ∷ (Unclear ∷ Quiet ∷ Start ∷ Quiet ∷ [])
+    ∷ []
+unfolding signalOf
+sixteen-signals = refl
+
 -- ---- START, STOP, and samples that are unclear
 
 module _ (w : Wires) (s : ℕ) where
@@ -61,10 +74,14 @@ module _ (w : Wires) (s : ℕ) where
   unfolding sampleOf onSignal
   start-law e = rw e refl
 
-  -- STOP is told but while START is waited for, and leaves no bit taken
-  pub stop-law : signalOf (w .last) s ≡ Stop → sampleOf w s ≡ onStop w s
-  unfolding sampleOf onSignal
-  stop-law e = rw e refl
+  -- STOP is told, and ends the message; while START is waited for it tells nothing, and does not end the waiting. No bit stays taken
+  pub stop-law : signalOf (w .last) s ≡ Stop → isWaiting (w .stage) ≡ false → sampleOf w s ≡ anew w s Outside (Event 257)
+  unfolding sampleOf onSignal onStop
+  stop-law e h = rw (e, h) refl
+
+  pub stop-while-waiting : signalOf (w .last) s ≡ Stop → isWaiting (w .stage) ≡ true → sampleOf w s ≡ anew w s Waiting Nothing
+  unfolding sampleOf onSignal onStop
+  stop-while-waiting e h = rw (e, h) refl
 
   -- an unclear sample tells nothing, and whatever samples come behind it, the first event that they tell is a START
   pub waits-for-start :
