@@ -8,6 +8,7 @@ use native.Mathlib.Omega.{arith}
 use lib.Dec.{leb}
 use lib.ListN.{length, set, getD, drop, drop-of-length-le}
 use lib.Seq.{sets}
+use Rattle.text.proofs.CodeWays.{both-tests}
 use Rattle.text.proofs.Finding.{drop-next}
 use borrow.Author.Tests.{lt-ltb, le-ltb, eq-eqb, ne-eqb, not-true, not-false}
 use Rattle.wire_samples.specs.declared.Stage.the-variants.{Outside, Waiting}
@@ -21,10 +22,6 @@ use Rattle.wire_samples.specs.declared.signal.Signal.the-variants.{Quiet
 use Rattle.wire_samples.specs.Signal.{sclOf, sdaOf, rises, falls, changes, onOneLine, onLines, signalOf}
 use Rattle.wire_samples.specs.Sample.{wires, sampled, quiet, anew, isWaiting, onStop, inMessage, withBit, byteDone, onBit, onSignal, toldBy}
 use Rattle.wire_samples.specs.Feed.{fits, repeats, areSamples, refusalOf, asMuchAsFits, feedOf, answerOf, stored}
-
--- two tests by what they are of
-pub both : (u v p q t : Bool) → u ≡ p → v ≡ q → u && v ≡ t → p && q ≡ t
-both u v p q t e f h = rw (← e, ← f) h
 
 -- a test by its value
 first : (t : Bool) (a b : Signal) → t ≡ true → a ≡ cond t a b
@@ -42,28 +39,28 @@ module _ (before s : ℕ) (c₀ d₀ c d : Bool) (e₀ : c₀ ≡ sclOf before) 
 
   module _ (u v : Bool) (eu : u ≡ changes c₀ c) (ev : v ≡ changes d₀ d) where
     pub is-unclear : u && v ≡ true → Unclear ≡ signalOf before s
-    is-unclear t = first _ _ _ (both u v _ _ true eu ev t) ∙ lines
+    is-unclear t = first _ _ _ (both-tests u v _ _ true eu ev t) ∙ lines
 
     module _ (r : Bool) (er : r ≡ rises c₀ c) (n₁ : u && v ≡ false) where
       later : (x : Signal) → x ≡ onOneLine c₀ d₀ c d → x ≡ signalOf before s
-      later x h = rest _ _ _ x (both u v _ _ false eu ev n₁) h ∙ lines
+      later x h = rest _ _ _ x (both-tests u v _ _ false eu ev n₁) h ∙ lines
 
       pub is-bit : r ≡ true → Bit d ≡ signalOf before s
       is-bit t = later _ (first _ _ _ (sym er ∙ t))
 
       module _ (g : Bool) (eg : g ≡ falls d₀ d) (n₂ : r ≡ false) where
         pub is-start : (c₀ && c) && g ≡ true → Start ≡ signalOf before s
-        is-start t = later _ (rest _ _ _ _ (sym er ∙ n₂) (first _ _ _ (both (c₀ && c) g _ _ true refl eg t)))
+        is-start t = later _ (rest _ _ _ _ (sym er ∙ n₂) (first _ _ _ (both-tests (c₀ && c) g _ _ true refl eg t)))
 
         module _ (h : Bool) (eh : h ≡ rises d₀ d) (n₃ : (c₀ && c) && g ≡ false) where
           last : (x : Signal) → x ≡ cond ((c₀ && c) && rises d₀ d) Stop Quiet → x ≡ signalOf before s
-          last x k = later x (rest _ _ _ x (sym er ∙ n₂) (rest _ _ _ x (both (c₀ && c) g _ _ false refl eg n₃) k))
+          last x k = later x (rest _ _ _ x (sym er ∙ n₂) (rest _ _ _ x (both-tests (c₀ && c) g _ _ false refl eg n₃) k))
 
           pub is-stop : (c₀ && c) && h ≡ true → Stop ≡ signalOf before s
-          is-stop t = last _ (first _ _ _ (both (c₀ && c) h _ _ true refl eh t))
+          is-stop t = last _ (first _ _ _ (both-tests (c₀ && c) h _ _ true refl eh t))
 
           pub is-quiet : (c₀ && c) && h ≡ false → Quiet ≡ signalOf before s
-          is-quiet t = last _ (rest _ _ _ _ (both (c₀ && c) h _ _ false refl eh t) refl)
+          is-quiet t = last _ (rest _ _ _ _ (both-tests (c₀ && c) h _ _ false refl eh t) refl)
 
 -- ---- a sample
 
