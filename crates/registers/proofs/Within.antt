@@ -9,7 +9,8 @@ use lib.ListN.{getD, set}
 use Rattle.registers.specs.declared.Registers.{Registers}
 use Rattle.registers.specs.declared.Chip.{Chip}
 use Rattle.registers.proofs.Below.{false-true}
-use Rattle.registers.specs.Record.{within, values, limits, allowed, allowedRegisters}
+use Rattle.registers.specs.declared.PixelCounts.{PixelCounts}
+use Rattle.registers.specs.Record.{within, values, limits, allowed, allowedRegisters, counts, countFor, countLimits, allowedCounts}
 
 pub both-left : (a b : Bool) → a && b ≡ true → a ≡ true
 both-left true b h = refl
@@ -42,14 +43,29 @@ within-set t (n ∷ ns) (l ∷ ls) h zero v b =
 within-set t (n ∷ ns) (l ∷ ls) h (suc f) v b = within-set (t && leb n l) ns ls h f v b
 
 -- of an allowed record
-pub allowed-registers : (c : Chip) → allowed c ≡ true → allowedRegisters (c .registers) ≡ true
-unfolding allowed
-allowed-registers c h = both-left (allowedRegisters (c .registers)) (leb (c .pins) 3) h
+module _ (c : Chip) (h : allowed c ≡ true) where
+  pub allowed-registers : allowedRegisters (c .registers) ≡ true
+  unfolding allowed
+  allowed-registers = both-left (allowedRegisters (c .registers)) (leb (c .pins) 3) (both-left _ (allowedCounts (c .pixels)) h)
 
-pub allowed-pins : (c : Chip) → allowed c ≡ true → c .pins ≤ 3
+  pub allowed-pins : c .pins ≤ 3
+  unfolding allowed
+  allowed-pins = leb-true (c .pins) 3 (both-right (allowedRegisters (c .registers)) (leb (c .pins) 3) (both-left _ (allowedCounts (c .pixels)) h))
+
+  pub allowed-counts : allowedCounts (c .pixels) ≡ true
+  unfolding allowed
+  allowed-counts = both-right (allowedRegisters (c .registers) && leb (c .pins) 3) (allowedCounts (c .pixels)) h
+
+-- and back
+pub allowed-parts :
+    (c : Chip) → allowedRegisters (c .registers) ≡ true → c .pins ≤ 3 → allowedCounts (c .pixels) ≡ true → allowed c ≡ true
 unfolding allowed
-allowed-pins c h = leb-true (c .pins) 3 (both-right (allowedRegisters (c .registers)) (leb (c .pins) 3) h)
+allowed-parts c hr hp hn = simp (hr, le-leb (c .pins) 3 hp, hn)
 
 -- register f of an allowed record is within its limit
 pub register-bound : (r : Registers) → allowedRegisters r ≡ true → (f : ℕ) → getD (values r) f 0 ≤ getD limits f 0
 register-bound r h f = within-at true (values r) limits h f
+
+-- and so is the count of value v
+pub count-bound : (n : PixelCounts) → allowedCounts n ≡ true → (v : ℕ) → countFor n v ≤ getD countLimits v 0
+count-bound n h v = within-at true (counts n) countLimits h v

@@ -8,6 +8,7 @@ use lib.ListN.{getD, set}
 use Rattle.text.specs.Text.{bytes}
 use Rattle.registers.specs.declared.Registers.{Registers}
 use Rattle.registers.specs.declared.Chip.{Chip}
+use Rattle.registers.specs.declared.PixelCounts.{PixelCounts}
 use Rattle.registers.specs.declared.Phase.{Phase}
 use Rattle.registers.specs.declared.Phase.the-variants.{Idle, AddressAwaited, Ignoring, ControlAwaited, OneByte, EndlessBytes, Reading, ReadEnded}
 
@@ -109,27 +110,55 @@ phaseRs (EndlessBytes rs) = rs
 phaseRs Reading = false
 phaseRs ReadEnded = false
 
+-- ---- how many pixels have each value (document 02, W8)
+
+-- the glass has 67 rows of 101
+abbrev pub pixels : ℕ
+pixels = 6767
+
+-- the counts of the values 0 to 3 in this order, and that of one value
+abbrev pub counts : PixelCounts → List ℕ
+counts n = n .zeros ∷ n .ones ∷ n .twos ∷ n .threes ∷ []
+
+abbrev pub countFor : PixelCounts → ℕ → ℕ
+countFor n v = getD (counts n) v 0
+
+-- what f gives for each value
+abbrev pub byValue : (ℕ → ℕ) → PixelCounts
+byValue f = record { zeros = f 0; ones = f 1; twos = f 2; threes = f 3 }
+
+-- where every byte of the memory is 0
+abbrev pub cleared : PixelCounts
+cleared = record { zeros = pixels; ones = 0; twos = 0; threes = 0 }
+
+-- ---- the whole record
+
+-- after a power-on reset, for a memory that is cleared
 abbrev pub resetChip : ℕ → Chip
 resetChip pins =
-    record { registers = resetRegisters; pins = pins; status = 0; «last_rs» = false; phase = Idle }
+    record { registers = resetRegisters; pins = pins; status = 0; «last_rs» = false; phase = Idle; pixels = cleared }
 
 -- ---- the same record but for one thing: every change of a chip is made of these
 
 abbrev pub withRegisters : Chip → Registers → Chip
 withRegisters c r =
-    record { registers = r; pins = c .pins; status = c .status; «last_rs» = c .«last_rs»; phase = c .phase }
+    record { registers = r; pins = c .pins; status = c .status; «last_rs» = c .«last_rs»; phase = c .phase; pixels = c .pixels }
 
 abbrev pub withStatus : Chip → ℕ → Chip
 withStatus c n =
-    record { registers = c .registers; pins = c .pins; status = n; «last_rs» = c .«last_rs»; phase = c .phase }
+    record { registers = c .registers; pins = c .pins; status = n; «last_rs» = c .«last_rs»; phase = c .phase; pixels = c .pixels }
 
 abbrev pub withLastRs : Chip → Bool → Chip
 withLastRs c rs =
-    record { registers = c .registers; pins = c .pins; status = c .status; «last_rs» = rs; phase = c .phase }
+    record { registers = c .registers; pins = c .pins; status = c .status; «last_rs» = rs; phase = c .phase; pixels = c .pixels }
 
 abbrev pub inPhase : Chip → Phase → Chip
 inPhase c p =
-    record { registers = c .registers; pins = c .pins; status = c .status; «last_rs» = c .«last_rs»; phase = p }
+    record { registers = c .registers; pins = c .pins; status = c .status; «last_rs» = c .«last_rs»; phase = p; pixels = c .pixels }
+
+abbrev pub withPixels : Chip → PixelCounts → Chip
+withPixels c n =
+    record { registers = c .registers; pins = c .pins; status = c .status; «last_rs» = c .«last_rs»; phase = c .phase; pixels = n }
 
 -- ---- what is allowed
 
@@ -142,6 +171,13 @@ within t (n ∷ ns) (l ∷ ls) = within (t && leb n l) ns ls
 abbrev pub allowedRegisters : Registers → Bool
 allowedRegisters r = within true (values r) limits
 
--- document 01, "Allowed"
+-- no count is above that of all pixels
+abbrev pub countLimits : List ℕ
+countLimits = pixels ∷ pixels ∷ pixels ∷ pixels ∷ []
+
+abbrev pub allowedCounts : PixelCounts → Bool
+allowedCounts n = within true (counts n) countLimits
+
+-- document 01, "Allowed", and document 02, W8
 unfoldable pub allowed : Chip → Bool
-allowed c = allowedRegisters (c .registers) && leb (c .pins) 3
+allowed c = allowedRegisters (c .registers) && leb (c .pins) 3 && allowedCounts (c .pixels)

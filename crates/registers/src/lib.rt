@@ -1,6 +1,6 @@
 // The chip's record as plain data: registers, bus phase and the rest, their limits and reset values, and the row methods.
 ghost use mathlib.Core.Path.{_≡_};
-ghost use Rattle.registers.specs.Record.{phaseRs, resetChip, allowedRegisters, allowed, inPhase, withRegisters};
+ghost use Rattle.registers.specs.Record.{phaseRs, resetChip, allowedRegisters, allowedCounts, allowed, inPhase, withRegisters, withPixels};
 
 mod bytes;
 pub mod entry;
@@ -55,13 +55,23 @@ pub enum Phase {
     ReadEnded,
 }
 
-// The chip's record: the registers, the pins SA, the status byte TR, the last RS and the bus phase. The event count is the bus's and stands beside it.
+// How many pixels of the glass have the value 0, 1, 2 and 3.
+pub struct PixelCounts {
+    pub zeros: u16,
+    pub ones: u16,
+    pub twos: u16,
+    pub threes: u16,
+}
+
+// The chip's record: the registers, the pins SA, the status byte TR, the last RS, the bus phase and the pixels by value. The event count is the bus's
+// and stands beside it.
 pub struct Chip {
     pub registers: Registers,
     pub pins: u8,
     pub status: u8,
     pub last_rs: bool,
     pub phase: Phase,
+    pub pixels: PixelCounts,
 }
 
 impl Registers {
@@ -119,8 +129,17 @@ impl Phase {
     }
 }
 
+impl PixelCounts {
+    // No more than the glass has pixels.
+    pub fn allowed(self) -> bool
+        ensures { λ r. ⌜ r ≡ allowedCounts self ⌝ }
+    {
+        (self.zeros <= 6767) & (self.ones <= 6767) & (self.twos <= 6767) & (self.threes <= 6767)
+    }
+}
+
 impl Chip {
-    // The record after power-on reset.
+    // The record after power-on reset, for a memory that is cleared.
     pub fn reset(pins: u8) -> Self
         ensures { λ r. ⌜ r ≡ resetChip pins ⌝ }
     {
@@ -130,15 +149,22 @@ impl Chip {
             status: 0,
             last_rs: false,
             phase: Phase::Idle,
+            pixels: PixelCounts {
+                zeros: 6767,
+                ones: 0,
+                twos: 0,
+                threes: 0,
+            },
         }
     }
 
-    // Every register within its limit, and pins that two wires can have.
+    // Every register within its limit, pins that two wires can have, and no count above that of all pixels.
     pub fn allowed(self) -> bool
         ensures { λ r. ⌜ r ≡ allowed self ⌝ }
     {
         let registers = self.registers;
-        registers.allowed() & (self.pins <= 3)
+        let pixels = self.pixels;
+        registers.allowed() & (self.pins <= 3) & pixels.allowed()
     }
 
     // The same record in another phase. A field that holds an enum is not stored to: the struct is made anew.
@@ -146,12 +172,14 @@ impl Chip {
         ensures { λ r. ⌜ r ≡ inPhase self phase ⌝ }
     {
         let registers = self.registers;
+        let pixels = self.pixels;
         Self {
             registers,
             pins: self.pins,
             status: self.status,
             last_rs: self.last_rs,
             phase,
+            pixels,
         }
     }
 
@@ -160,6 +188,14 @@ impl Chip {
         ensures { λ r. ⌜ r ≡ withRegisters self registers ⌝ }
     {
         self.registers = registers;
+        self
+    }
+
+    // The same record with other counts of pixels.
+    pub fn with_pixels(mut self, pixels: PixelCounts) -> Self
+        ensures { λ r. ⌜ r ≡ withPixels self pixels ⌝ }
+    {
+        self.pixels = pixels;
         self
     }
 }
