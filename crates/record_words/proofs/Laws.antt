@@ -1,7 +1,7 @@
 -- Words and record are one thing in two forms: across and back is where one started, either way.
 use mathlib.Core.Path.{_≡_, refl, sym, ap, ap₂}
 use mathlib.Core.Bool.{Bool, true, false, cond, not, _&&_, _||_}
-use mathlib.Core.List.{List, [], _∷_, _++_}
+use mathlib.Core.List.{List, _∷_, _++_}
 use mathlib.Core.Logic.{_↔_}
 use Prim.Native.Nat.{ℕ, _≤_}
 use native.Mathlib.Omega.{arith}
@@ -9,15 +9,16 @@ use borrow.Author.Tests.{eqb-true, eq-eqb, le-leb}
 use lib.Dec.{T, leb, eqb}
 use lib.ListN.{getD}
 use Rattle.registers.specs.declared.Chip.{Chip}
+use Rattle.registers.specs.declared.PixelCounts.{PixelCounts}
 use Rattle.registers.specs.declared.Phase.{Phase}
 use Rattle.registers.specs.declared.Phase.the-variants.{Idle, AddressAwaited, Ignoring, ControlAwaited, OneByte, EndlessBytes, Reading, ReadEnded}
-use Rattle.registers.specs.Record.{phaseRs, allowed, within, values}
-use Rattle.registers.proofs.Below.{allBelow, below-at}
+use Rattle.registers.specs.Record.{phaseRs, allowed, within, values, counts, countLimits, allowedRegisters, allowedCounts, withLastRs, inPhase}
+use Rattle.registers.proofs.Below.{allBelow, below-at, false-true}
 use Rattle.registers.proofs.Within.{both-left, both-right}
 use Rattle.registers.proofs.Tables.{tabulated}
 use Rattle.record_words.specs.declared.Read.the-variants.{Record, NoRecord}
-use Rattle.record_words.specs.Words.{wordLimits, recordLength, standsFor, chipOf, wordsOf, phaseOf, phaseNumber, rsFits, bit, isSet, readOf}
-use Rattle.record_words.specs.Words.{readNumber, stored}
+use Rattle.record_words.specs.Words.{wordLimits, recordLength, standsFor, chipOf, wordsOf, phaseOf, phaseNumber}
+use Rattle.record_words.specs.Words.{rsFits, bit, isSet, readOf, readNumber, stored}
 use Rattle.record_words.proofs.Stands.{true-of, in-words, stands-length, stands-within, stands-at, stands-rs}
 
 -- ---- words, record, words
@@ -55,14 +56,14 @@ words-chip-words ws h =
     → wordsOf (chipOf l) ≡ l)
     (λ f last number rs.
     ap (λ (k : List ℕ). values (chipOf (tabulated f 0 recordLength) .registers) ++ (f 29 ∷ f 30 ∷ k))
-    (three _ _ _ _ _ _ last number rs))
+    (three _ _ _ _ _ _ _ last number rs))
     ws (stands-length ws h)
     (bit-back (getD ws 31 0) (stands-at ws h 31))
     (eqb-true _ _ (both-left _ _ phase))
     (eqb-true _ _ (both-right (eqb (phaseNumber (phaseIn ws)) (getD ws 32 0)) _ phase))
   where
-    three : (a a′ b b′ c c′ : ℕ) → a ≡ a′ → b ≡ b′ → c ≡ c′ → a ∷ b ∷ c ∷ [] ≡ a′ ∷ b′ ∷ c′ ∷ []
-    three a a′ b b′ c c′ ea eb ec = rw (ea, eb, ec)
+    three : (a a′ b b′ c c′ : ℕ) (l : List ℕ) → a ≡ a′ → b ≡ b′ → c ≡ c′ → a ∷ b ∷ c ∷ l ≡ a′ ∷ b′ ∷ c′ ∷ l
+    three a a′ b b′ c c′ l ea eb ec = rw (ea, eb, ec)
 
 -- ---- record, words, record
 
@@ -85,7 +86,7 @@ pub chip-words-chip : (c : Chip) → chipOf (wordsOf c) ≡ c
 unfolding wordsOf chipOf
 chip-words-chip c =
     ap₂
-    (λ (t : Bool) (p : Phase). record { registers = c .registers; pins = c .pins; status = c .status; «last_rs» = t; phase = p })
+    (λ (t : Bool) (p : Phase). inPhase (withLastRs c t) p)
     (set-bit (c .«last_rs»))
     (same-phase (c .phase))
 
@@ -115,19 +116,36 @@ rs-bound (EndlessBytes false) = refl
 rs-bound Reading = refl
 rs-bound ReadEnded = refl
 
-all-five :
-    (a b c d e : Bool) → a ≡ true → b ≡ true → c ≡ true → d ≡ true → e ≡ true → (((a && b) && c) && d) && e ≡ true
-all-five a b c d e ea eb ec ed ee = rw (ea, eb, ec, ed, ee)
-
 both : (a b : Bool) → a ≡ true → b ≡ true → a && b ≡ true
 both a b ea eb = rw (ea, eb)
+
+-- the words' test: t of the registers and pins, then the four words behind them, then the pixels
+abbrev registersAndPins : Chip → Bool
+registersAndPins c = allowedRegisters (c .registers) && leb (c .pins) 3
+
+abbrev tested : Bool → Bool → Bool → Bool → Bool → PixelCounts → Bool
+tested t a b c d n = within ((((t && a) && b) && c) && d) (counts n) countLimits
+
+all-tested :
+    (t a b c d : Bool) (n : PixelCounts) → t && allowedCounts n ≡ true → a ≡ true → b ≡ true → c ≡ true → d ≡ true → tested t a b c d n ≡ true
+all-tested true a b c d n h ea eb ec ed = rw (ea, eb, ec, ed) h
+all-tested false a b c d n h ea eb ec ed = h
+
+tested-allowed : (t a b c d : Bool) (n : PixelCounts) → tested t a b c d n ≡ true → t && allowedCounts n ≡ true
+tested-allowed true true true true true n h = h
+tested-allowed true true true true false n h = absurd (false-true h)
+tested-allowed true true true false d n h = absurd (false-true h)
+tested-allowed true true false c d n h = absurd (false-true h)
+tested-allowed true false b c d n h = absurd (false-true h)
+tested-allowed false a b c d n h = h
 
 -- an allowed record whose status is a byte stands in words
 pub allowed-stands : (c : Chip) → allowed c ≡ true → c .status ≤ 255 → standsFor (wordsOf c) ≡ true
 unfolding standsFor wordsOf allowed
 allowed-stands c h hs =
     both _ _
-    (all-five _ _ _ _ _ h (le-leb (c .status) 255 hs) (bit-bound (c .«last_rs»)) (phase-bound (c .phase)) (bit-bound (phaseRs (c .phase))))
+    (all-tested (registersAndPins c) _ _ _ _ (c .pixels) h (le-leb (c .status) 255 hs) (bit-bound (c .«last_rs»)) (phase-bound (c .phase))
+    (bit-bound (phaseRs (c .phase))))
     (rs-bound (c .phase))
 
 -- the other way round: the record is allowed, so that a step finds no 2 in it
@@ -135,7 +153,9 @@ pub stands-allowed : (ws : List ℕ) → standsFor ws ≡ true → allowed (chip
 unfolding chipOf allowed
 stands-allowed ws h =
     in-words (λ (l : List ℕ). within true l wordLimits ≡ true → allowed (chipOf l) ≡ true)
-    (λ f w. both-left _ _ (both-left _ _ (both-left _ _ (both-left _ _ w))))
+    (λ f w.
+    let c = chipOf (tabulated f 0 recordLength) in
+    tested-allowed (registersAndPins c) (leb (f 30) 255) (leb (f 31) 1) (leb (f 32) 7) (leb (f 33) 1) (c .pixels) w)
     ws (stands-length ws h) (stands-within ws h)
 
 -- ---- reading and writing

@@ -12,7 +12,7 @@ use Rattle.registers.specs.Record.{within}
 use Rattle.registers.proofs.Below.{below-at}
 use Rattle.registers.proofs.Tables.{tabulated}
 use Rattle.registers.proofs.Within.{both-left, both-right, within-at}
-use Rattle.record_words.specs.Words.{PHASE, PHASE-RS, wordLimits, recordLength, standsFor, rsFits}
+use Rattle.record_words.specs.Words.{PHASE, PHASE-RS, PIXELS, wordLimits, recordLength, standsFor, rsFits}
 
 pub true-of : (t : Bool) → T t → t ≡ true
 true-of true t = refl
@@ -49,7 +49,7 @@ module _ (ws : List ℕ) (h : standsFor ws ≡ true) where
   pub stands-at : (i : ℕ) → getD ws i 0 ≤ getD wordLimits i 0
   stands-at i = within-at true ws wordLimits stands-within i
 
-  -- every word is a byte
-  pub stands-byte : (i : ℕ) → i < 34 → getD ws i 0 < 256
+  -- every word but the pixels' is a byte
+  pub stands-byte : (i : ℕ) → i < PIXELS → getD ws i 0 < 256
   stands-byte i l =
-      omega (arith, stands-at i, leb-true (getD wordLimits i 0) 255 (true-of _ (below-at 34 (λ k. leb (getD wordLimits k 0) 255) tt i l)))
+      omega (arith, stands-at i, leb-true (getD wordLimits i 0) 255 (true-of _ (below-at PIXELS (λ k. leb (getD wordLimits k 0) 255) tt i l)))

@@ -1,15 +1,16 @@
--- The chip's record as a host in C holds it: 34 words of 64 bits.
+-- The chip's record as a host in C holds it: 38 words of 64 bits.
 use mathlib.Core.Bool.{Bool, true, cond, _&&_, _||_}
 use mathlib.Core.List.{List, [], _∷_, _++_}
-use Prim.Native.Nat.{ℕ}
+use Prim.Native.Nat.{ℕ, _+_}
 use lib.Dec.{eqb}
 use lib.ListN.{length, getD}
 use Rattle.registers.specs.declared.Chip.{Chip}
+use Rattle.registers.specs.declared.PixelCounts.{PixelCounts}
 use Rattle.registers.specs.declared.Phase.{Phase}
 use Rattle.registers.specs.declared.Phase.the-variants.{Idle, AddressAwaited, Ignoring, ControlAwaited, OneByte, EndlessBytes, Reading, ReadEnded}
 use Rattle.record_words.specs.declared.Read.{Read}
 use Rattle.record_words.specs.declared.Read.the-variants.{Record, NoRecord}
-use Rattle.registers.specs.Record.{phaseRs, limits, values, ofValues, within}
+use Rattle.registers.specs.Record.{phaseRs, limits, values, ofValues, within, counts, byValue, countLimits}
 
 -- where the words stand: 0..28 the registers in document 01's order, then these
 abbrev pub PINS : ℕ
@@ -27,9 +28,13 @@ PHASE = 32
 abbrev pub PHASE-RS : ℕ
 PHASE-RS = 33
 
--- the largest value of each word: the registers' limits, then pins 3, a byte, a bit, eight phases, a bit
+-- the pixels of value v are word PIXELS + v
+abbrev pub PIXELS : ℕ
+PIXELS = 34
+
+-- the largest value of each word: the registers' limits, then pins 3, a byte, a bit, eight phases, a bit, four counts
 abbrev pub restLimits : List ℕ
-restLimits = 3 ∷ 255 ∷ 1 ∷ 7 ∷ 1 ∷ []
+restLimits = 3 ∷ 255 ∷ 1 ∷ 7 ∷ 1 ∷ countLimits
 
 abbrev pub wordLimits : List ℕ
 wordLimits = limits ++ restLimits
@@ -40,7 +45,7 @@ rsFits phase rs = eqb rs 0 || (eqb phase 4 || eqb phase 5)
 
 -- how many words a record has
 abbrev pub recordLength : ℕ
-recordLength = 34
+recordLength = 38
 
 -- these words are a chip's record
 unfoldable pub standsFor : List ℕ → Bool
@@ -69,6 +74,9 @@ bit b = cond b 1 0
 abbrev pub isSet : ℕ → Bool
 isSet n = eqb n 1
 
+abbrev pub pixelsOf : List ℕ → PixelCounts
+pixelsOf ws = byValue (λ v. getD ws (PIXELS + v) 0)
+
 -- the record that the words stand for, and its words
 unfoldable pub chipOf : List ℕ → Chip
 chipOf ws =
@@ -78,12 +86,13 @@ chipOf ws =
       status = getD ws STATUS 0;
       «last_rs» = isSet (getD ws LAST-RS 0);
       phase = phaseOf (getD ws PHASE 0) (isSet (getD ws PHASE-RS 0));
+      pixels = pixelsOf ws;
     }
 
 unfoldable pub wordsOf : Chip → List ℕ
 wordsOf c =
     values (c .registers)
-    ++ (c .pins ∷ c .status ∷ bit (c .«last_rs») ∷ phaseNumber (c .phase) ∷ bit (phaseRs (c .phase)) ∷ [])
+    ++ (c .pins ∷ c .status ∷ bit (c .«last_rs») ∷ phaseNumber (c .phase) ∷ bit (phaseRs (c .phase)) ∷ counts (c .pixels))
 
 -- ---- what reading and writing give
 

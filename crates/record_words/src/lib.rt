@@ -3,15 +3,19 @@ ghost use mathlib.Core.Path.{_≡_};
 ghost use mathlib.Core.Bool.{true};
 ghost use mathlib.Core.List.{_++_};
 ghost use lib.ListN.{length, take, drop};
-ghost use Rattle.registers.specs.Record.{within, values};
-ghost use Rattle.record_words.specs.Words.{wordLimits, standsFor, chipOf, wordsOf, readOf, stored, bit};
+ghost use Rattle.registers.specs.Record.{within, values, counts};
+ghost use Rattle.record_words.specs.Words.{PIXELS, recordLength, wordLimits, standsFor, pixelsOf, chipOf, wordsOf, readOf, stored, bit};
 use registers::Chip;
+use registers::PixelCounts;
 use registers::Registers;
 
 mod phase;
 
-// The registers come first, then pins, status byte, last RS, phase, the phase's RS.
-pub const WORDS: usize = 34;
+// The registers come first, then pins, status byte, last RS, phase, the phase's RS, the pixels of value 0, 1, 2 and 3.
+pub const WORDS: usize = 38;
+
+// The largest values of the words behind the registers.
+const REST_LIMITS: [u64; 9] = [3, 255, 1, 7, 1, 6767, 6767, 6767, 6767];
 
 // What words say: a record, or nothing, as they stand for none.
 pub enum Read {
@@ -33,7 +37,7 @@ fn bit(b: bool) -> u64
 
 // The limits are laid out once, before the words are gone through.
 fn within_limits(words: &[u64]) -> bool
-    requires { ⌜ length (now words) ≡ 34 ⌝ }
+    requires { ⌜ length (now words) ≡ recordLength ⌝ }
     ensures { λ r. ⌜ r ≡ within true (now (words .entry)) wordLimits ⌝ }
 {
     let limits = registers::limits::limits();
@@ -43,12 +47,11 @@ fn within_limits(words: &[u64]) -> bool
         fine = fine & (words[i] <= wide(limits[i]));
         i += 1;
     }
+    while i < WORDS {
+        fine = fine & (words[i] <= REST_LIMITS[i - 29]);
+        i += 1;
+    }
     fine
-        & (words[29] <= 3)
-        & (words[30] <= 255)
-        & (words[31] <= 1)
-        & (words[32] <= 7)
-        & (words[33] <= 1)
 }
 
 // As many words as a record has, within their limits; the phase's RS is 0 but in phases 4 and 5.
@@ -74,6 +77,18 @@ fn register_bytes(words: &[u64]) -> [u8; 29]
     bytes
 }
 
+fn pixels(words: &[u64]) -> PixelCounts
+    requires { ⌜ standsFor (now words) ≡ true ⌝ }
+    ensures { λ r. ⌜ r ≡ pixelsOf (now (words .entry)) ⌝ }
+{
+    PixelCounts {
+        zeros: words[34] as u16,
+        ones: words[35] as u16,
+        twos: words[36] as u16,
+        threes: words[37] as u16,
+    }
+}
+
 fn chip(words: &[u64]) -> Chip
     requires { ⌜ standsFor (now words) ≡ true ⌝ }
     ensures { λ r. ⌜ r ≡ chipOf (now (words .entry)) ⌝ }
@@ -84,6 +99,7 @@ fn chip(words: &[u64]) -> Chip
         status: words[30] as u8,
         last_rs: words[31] == 1,
         phase: phase::of(words[32], words[33] == 1),
+        pixels: pixels(words),
     }
 }
 
@@ -98,7 +114,7 @@ pub fn read_record(words: &[u64]) -> Read
 }
 
 fn write_registers(registers: Registers, words: &mut [u64])
-    requires { ⌜ length (now words) ≡ 34 ⌝ }
+    requires { ⌜ length (now words) ≡ recordLength ⌝ }
     ensures { λ _. ⌜ now (words .exit) ≡ values registers ++ drop 29 (now (words .entry)) ⌝ }
 {
     let bytes = registers.bytes();
@@ -109,11 +125,22 @@ fn write_registers(registers: Registers, words: &mut [u64])
     }
 }
 
+fn write_pixels(pixels: PixelCounts, words: &mut [u64])
+    requires { ⌜ length (now words) ≡ recordLength ⌝ }
+    ensures { λ _. ⌜ now (words .exit) ≡ take PIXELS (now (words .entry)) ++ counts pixels ⌝ }
+{
+    words[34] = pixels.zeros as u64;
+    words[35] = pixels.ones as u64;
+    words[36] = pixels.twos as u64;
+    words[37] = pixels.threes as u64;
+}
+
 fn write_all(chip: Chip, words: &mut [u64])
-    requires { ⌜ length (now words) ≡ 34 ⌝ }
+    requires { ⌜ length (now words) ≡ recordLength ⌝ }
     ensures { λ _. ⌜ now (words .exit) ≡ wordsOf chip ⌝ }
 {
     write_registers(chip.registers, words);
+    write_pixels(chip.pixels, words);
     let phase = chip.phase;
     words[29] = wide(chip.pins);
     words[30] = wide(chip.status);

@@ -1,7 +1,7 @@
 use native.Mathlib.Omega.{arith}
-use borrow.Author.Needs.{needs}
 use Rattle.record_words.proofs.CodeWays.{chip-read}
 use Rattle.record_words.proofs.Stands.{stands-length, stands-at}
+use borrow.Author.Needs.{needs}
 use Rattle.record_words.proofs.chip.Statement.{statement}
 use Rattle.record_words.proofs.chip.Tie as tie
 
@@ -35,12 +35,16 @@ shared-slice-read-of-2 c = omega (arith, stands-length _ (c .before .before .bef
 of-requires : tie.Need-of-requires
 of-requires c κs = stands-at _ (c .before .before .before .before .before .before .before .before .pre) 32
 
+pixels-requires : tie.Need-pixels-requires
+pixels-requires c κs = search needs
+
 returns : tie.Need-returns
 returns c =
-    let at-registers = c .before .before .before .before .before .before in
+    let at-phase = c .before in
+    let at-registers = at-phase .before .before .before .before .before .before in
     let start = at-registers .before .before .before in
-    chip-read (start .args .words .now) _ _ _ (stands-length _ (start .pre)) (at-registers .before .register-bytes .ensures)
-    (at-registers .of-bytes .ensures) (c .of .ensures)
+    chip-read (start .args .words .now) _ _ _ _ (stands-length _ (start .pre)) (at-registers .before .register-bytes .ensures)
+    (at-registers .of-bytes .ensures) (at-phase .of .ensures) (c .pixels .ensures)
 
 pub chip-spec : {M : Type 1} → statement M
 chip-spec =
@@ -56,4 +60,5 @@ chip-spec =
     shared-slice-read-of
     shared-slice-read-of-2
     of-requires
+    pixels-requires
     returns)

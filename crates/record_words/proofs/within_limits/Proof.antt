@@ -1,12 +1,12 @@
-use mathlib.Core.Path.{_≡_, refl, sym, _∙_}
+use mathlib.Core.Path.{_≡_, refl, _∙_}
 use mathlib.Core.Bool.{true}
 use Prim.Native.Nat.{_-_, _≤_}
 use native.Mathlib.Omega.{arith}
 use borrow.Author.Needs.{needs}
 use lib.ListN.{drop}
 use Rattle.registers.specs.Record.{within}
-use Rattle.record_words.specs.Words.{wordLimits}
-use Rattle.record_words.proofs.CodeWays.{register-turn, rest-within, at-rest}
+use Rattle.record_words.specs.Words.{recordLength, wordLimits}
+use Rattle.record_words.proofs.CodeWays.{within-turn, register-limit, rest-limit, at-end}
 use Rattle.record_words.proofs.within_limits.Statement.{statement}
 use Rattle.record_words.proofs.within_limits.Tie as tie
 
@@ -16,61 +16,87 @@ Inv-loop words limits fine₀ i₀ fine i = (i ≤ 29) × (within fine (drop i w
 abbrev μ-loop : tie.MeasureT-loop
 μ-loop words limits fine₀ i₀ fine i = 29 - i
 
-limits-requires : tie.Need-limits-requires Inv-loop μ-loop
+abbrev Inv-loop2 : tie.InvT-loop2
+Inv-loop2 words fine₀ i₀ fine i =
+    (29 ≤ i) × (i ≤ recordLength) × (within fine (drop i words) (drop i wordLimits) ≡ within true words wordLimits)
+
+abbrev μ-loop2 : tie.MeasureT-loop2
+μ-loop2 words fine₀ i₀ fine i = recordLength - i
+
+limits-requires : tie.Need-limits-requires Inv-loop μ-loop Inv-loop2 μ-loop2
 limits-requires c κs = search needs
 
-loop-holds : tie.Need-loop-holds Inv-loop μ-loop
+loop-holds : tie.Need-loop-holds Inv-loop μ-loop Inv-loop2 μ-loop2
 loop-holds c = (omega arith, refl)
 
-mul-fine : tie.Need-mul-fine Inv-loop μ-loop
+mul-fine : tie.Need-mul-fine Inv-loop μ-loop Inv-loop2 μ-loop2
 mul-fine c = search needs
 
-shared-slice-read-fine : tie.Need-shared-slice-read-fine Inv-loop μ-loop
+shared-slice-read-fine : tie.Need-shared-slice-read-fine Inv-loop μ-loop Inv-loop2 μ-loop2
 shared-slice-read-fine c = search needs
 
-array-read-wide : tie.Need-array-read-wide Inv-loop μ-loop
+array-read-wide : tie.Need-array-read-wide Inv-loop μ-loop Inv-loop2 μ-loop2
 array-read-wide c = search needs
 
-wide-requires : tie.Need-wide-requires Inv-loop μ-loop
+wide-requires : tie.Need-wide-requires Inv-loop μ-loop Inv-loop2 μ-loop2
 wide-requires c κs = search needs
 
-add-i : tie.Need-add-i Inv-loop μ-loop
+add-i : tie.Need-add-i Inv-loop μ-loop Inv-loop2 μ-loop2
 add-i c = search needs
 
-loop-less : tie.Need-loop-less Inv-loop μ-loop
+loop-less : tie.Need-loop-less Inv-loop μ-loop Inv-loop2 μ-loop2
 loop-less c = search needs
 
-loop-again : tie.Need-loop-again Inv-loop μ-loop
+loop-again : tie.Need-loop-again Inv-loop μ-loop Inv-loop2 μ-loop2
 loop-again c =
     let at-head = c .before .before .before in
+    let i = at-head .loop .i in
     let words = at-head .before .before .before .args .words .now in (
       omega arith,
-      register-turn (at-head .loop .fine) words _ (at-head .loop .i) _ (omega arith) (omega arith) (at-head .before .limits .ensures) (c .wide .ensures)
+      within-turn (at-head .loop .fine) words wordLimits i _ (omega arith) (omega arith)
+          (register-limit _ i _ (omega arith) (at-head .before .limits .ensures) (c .wide .ensures))
           ∙ at-head .loop .inv .1,
     )
 
-shared-slice-read-result : tie.Need-shared-slice-read-result Inv-loop μ-loop
-shared-slice-read-result c = search needs
+loop2-holds : tie.Need-loop2-holds Inv-loop μ-loop Inv-loop2 μ-loop2
+loop2-holds c = (omega arith, omega arith, c .before .loop .inv .1)
 
-shared-slice-read-result-2 : tie.Need-shared-slice-read-result-2 Inv-loop μ-loop
-shared-slice-read-result-2 c = search needs
+mul-fine-2 : tie.Need-mul-fine-2 Inv-loop μ-loop Inv-loop2 μ-loop2
+mul-fine-2 c = search needs
 
-shared-slice-read-result-3 : tie.Need-shared-slice-read-result-3 Inv-loop μ-loop
-shared-slice-read-result-3 c = search needs
+shared-slice-read-fine-2 : tie.Need-shared-slice-read-fine-2 Inv-loop μ-loop Inv-loop2 μ-loop2
+shared-slice-read-fine-2 c = search needs
 
-shared-slice-read-result-4 : tie.Need-shared-slice-read-result-4 Inv-loop μ-loop
-shared-slice-read-result-4 c = search needs
+sub-fine : tie.Need-sub-fine Inv-loop μ-loop Inv-loop2 μ-loop2
+sub-fine c = search needs
 
-shared-slice-read-result-5 : tie.Need-shared-slice-read-result-5 Inv-loop μ-loop
-shared-slice-read-result-5 c = search needs
+mul-fine-3 : tie.Need-mul-fine-3 Inv-loop μ-loop Inv-loop2 μ-loop2
+mul-fine-3 c = search needs
 
-returns : tie.Need-returns Inv-loop μ-loop
+array-read-fine : tie.Need-array-read-fine Inv-loop μ-loop Inv-loop2 μ-loop2
+array-read-fine c = search needs
+
+add-i-2 : tie.Need-add-i-2 Inv-loop μ-loop Inv-loop2 μ-loop2
+add-i-2 c = search needs
+
+loop2-less : tie.Need-loop2-less Inv-loop μ-loop Inv-loop2 μ-loop2
+loop2-less c = search needs
+
+loop2-again : tie.Need-loop2-again Inv-loop μ-loop Inv-loop2 μ-loop2
+loop2-again c =
+    let at-head = c .before .before in
+    let i = at-head .loop2 .i in
+    let words = at-head .before .before .before .before .before .args .words .now in (
+      omega arith,
+      omega arith,
+      within-turn (at-head .loop2 .fine) words wordLimits i _ (omega arith) (omega arith) (rest-limit i (omega arith)) ∙ at-head .loop2 .inv .2,
+    )
+
+returns : tie.Need-returns Inv-loop μ-loop Inv-loop2 μ-loop2
 returns c =
-    let at-head = c .before .before .before .before .before .before in
-    let known = at-head .before .before in
-    let words = known .before .args .words .now in
-    sym (rest-within (at-head .loop .fine) words (known .before .pre))
-    ∙ at-rest (at-head .loop .fine) words (at-head .loop .i) (omega arith) (at-head .loop .inv .1)
+    let at-head = c .before in
+    let start = at-head .before .before .before .before .before in
+    at-end _ (start .args .words .now) (at-head .loop2 .i) (start .pre) (omega arith) (at-head .loop2 .inv .2)
 
 pub within-limits-spec : {M : Type 1} → statement M
 within-limits-spec =
@@ -78,6 +104,8 @@ within-limits-spec =
     (tie.spec
     Inv-loop
     μ-loop
+    Inv-loop2
+    μ-loop2
     limits-requires
     loop-holds
     mul-fine
@@ -87,9 +115,13 @@ within-limits-spec =
     add-i
     loop-less
     loop-again
-    shared-slice-read-result
-    shared-slice-read-result-2
-    shared-slice-read-result-3
-    shared-slice-read-result-4
-    shared-slice-read-result-5
+    loop2-holds
+    mul-fine-2
+    shared-slice-read-fine-2
+    sub-fine
+    mul-fine-3
+    array-read-fine
+    add-i-2
+    loop2-less
+    loop2-again
     returns)

@@ -3,12 +3,13 @@ use Prim.Native.Nat.{_-_, _≤_}
 use native.Mathlib.Omega.{arith}
 use borrow.Author.Needs.{needs}
 use lib.ListN.{length, length-set}
+use Rattle.record_words.specs.Words.{recordLength}
 use Rattle.record_words.proofs.CodeWays.{copied, copy-turn, registers-written}
 use Rattle.record_words.proofs.write_registers.Statement.{statement}
 use Rattle.record_words.proofs.write_registers.Tie as tie
 
 abbrev Inv-loop : tie.InvT-loop
-Inv-loop words₀ bytes i₀ words i = (i ≤ 29) × (length words ≡ 34) × (words ≡ copied bytes words₀ i)
+Inv-loop words₀ bytes i₀ words i = (i ≤ 29) × (length words ≡ recordLength) × (words ≡ copied bytes words₀ i)
 
 abbrev μ-loop : tie.MeasureT-loop
 μ-loop words₀ bytes i₀ words i = 29 - i
