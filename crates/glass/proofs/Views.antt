@@ -12,7 +12,7 @@ use Rattle.registers.specs.declared.Chip.{Chip}
 use Rattle.registers.specs.Places.{MY}
 use Rattle.registers.specs.Refusals.{refuse, _then_}
 use Rattle.registers.specs.Record.{limits, allowed}
-use Rattle.registers.proofs.Within.{register-bound, allowed-registers}
+use Rattle.registers.proofs.Within.{register-bound, allowed-registers, allowed-pins, allowed-counts, allowed-parts}
 use Rattle.registers.proofs.Put.{put-allowed}
 use Rattle.glass.specs.declared.answer.Shown.{Shown}
 use Rattle.glass.specs.declared.answer.Shown.the-variants as shown
@@ -24,10 +24,8 @@ use Rattle.glass.specs.Glass.{offGlass, placeRefusal, cellUnless, shownB
 -- ---- one register changed
 
 pub changed-allowed : (f n : ℕ) (c : Chip) → n ≤ getD limits f 0 → allowed c ≡ true → allowed (changed f n c) ≡ allowed c
-unfolding allowed
 changed-allowed f n c b h =
-    let before = allowed-registers c h in
-    ap (λ (t : Bool). t && leb (c .pins) 3) (put-allowed f n (c .registers) b before ∙ sym before)
+    allowed-parts (changed f n c) (put-allowed f n (c .registers) b (allowed-registers c h)) (allowed-pins c h) (allowed-counts c h) ∙ sym h
 
 same-refusal :
     (c d : Chip) (row other column : ℕ) → allowed c ≡ allowed d → offGlass row column ≡ offGlass other column

@@ -1,0 +1,184 @@
+-- What is promised of the counts, in one place: read this file first. The work stands in the files beside it.
+use mathlib.Core.Bool.{Bool, true, false, cond, _&&_}
+use mathlib.Core.List.{List}
+use mathlib.Core.Logic.{_↔_}
+use mathlib.Core.Path.{_≡_, refl, sym, ap, _∙_, subst}
+use Prim.Native.Nat.{ℕ, zero, suc, _+_, _*_, _-_, _≤_, _<_}
+use native.Mathlib.Nat.{zero-div}
+use native.Mathlib.Omega.{arith}
+use borrow.Author.Tests.{leb-true, le-leb, eq-eqb}
+use lib.Dec.{leb, eqb}
+use lib.ListN.{getD, length, set, replicate}
+use Rattle.registers.specs.declared.PixelCounts.{PixelCounts}
+use Rattle.registers.specs.Record.{pixels, counts, countFor, byValue, cleared, countLimits, allowedCounts}
+use Rattle.registers.specs.State.{places}
+use Rattle.registers.proofs.Within.{both-left, both-right, count-bound}
+use Rattle.glass.specs.Pixel.{valueIn}
+use Rattle.pixel_counts.specs.Counts.{ofValue, inRow, inRows, countOf, countsOf, counted, countingStart}
+use Rattle.pixel_counts.specs.Mending.{shown, fits, moved, fitsFor, movedFor, mendable, mended}
+use Rattle.pixel_counts.proofs.Places.{set-moves}
+use Rattle.pixel_counts.proofs.Sums as Sums
+
+-- ---- true counts
+
+-- they add up to all pixels
+pub counts-add : (m : List ℕ) → countOf 0 m + countOf 1 m + countOf 2 m + countOf 3 m ≡ pixels
+counts-add = Sums.counts-add
+
+four-allowed : (n : PixelCounts) → ((v : ℕ) → v < 4 → countFor n v ≤ pixels) → allowedCounts n ≡ true
+four-allowed n h =
+    simp (
+      le-leb (n .zeros) pixels (h 0 (omega arith)),
+      le-leb (n .ones) pixels (h 1 (omega arith)),
+      le-leb (n .twos) pixels (h 2 (omega arith)),
+      le-leb (n .threes) pixels (h 3 (omega arith)),
+    )
+
+-- so they are allowed
+pub counts-allowed : (m : List ℕ) → allowedCounts (countsOf m) ≡ true
+unfolding countsOf
+counts-allowed m = four-allowed (byValue (λ v. countOf v m)) low
+  where
+    low : (v : ℕ) → v < 4 → countFor (byValue (λ u. countOf u m)) v ≤ pixels
+    low zero h = Sums.count-low m 0 (omega arith)
+    low (suc zero) h = Sums.count-low m 1 (omega arith)
+    low (suc (suc zero)) h = Sums.count-low m 2 (omega arith)
+    low (suc (suc (suc zero))) h = Sums.count-low m 3 (omega arith)
+    low (suc (suc (suc (suc v)))) h = absurd (omega arith)
+
+-- ---- one count
+
+fits-so : (n left joined : ℕ) → left ≤ n + joined → n + joined ≤ pixels + left → fits n left joined ≡ true
+fits-so n left joined low high = simp (le-leb left (n + joined) low, le-leb (n + joined) (pixels + left) high)
+
+pub so-fits : (n left joined : ℕ) → fits n left joined ≡ true → (left ≤ n + joined) × (n + joined ≤ pixels + left)
+so-fits n left joined t = (
+  leb-true left (n + joined) (both-left _ (leb (n + joined) (pixels + left)) t),
+  leb-true (n + joined) (pixels + left) (both-right (leb left (n + joined)) _ t),
+)
+
+moves-by : (n left joined : ℕ) → fits n left joined ≡ true → moved n left joined + left ≡ n + joined
+moves-by n left joined t = let so = so-fits n left joined t in rw t (omega (arith, so .0))
+
+moved-low : (n left joined : ℕ) → n ≤ pixels → moved n left joined ≤ pixels
+moved-low n left joined h = go (fits n left joined) refl
+  where
+    go : (t : Bool) → fits n left joined ≡ t → cond t (n + joined - left) n ≤ pixels
+    go true e = let so = so-fits n left joined e in omega (arith, so .1)
+    go false e = h
+
+-- ---- counts of any kind, true or not, where byte `new` takes the place of byte `old`
+
+-- of value v, as many leave as the old byte showed, and as many join as the new one shows: the count after that is a number from 0 to all pixels
+pub record FitsFor (n : PixelCounts) (place old new v : ℕ) : Type 0 where
+  pub not-below : shown v place old ≤ countFor n v + shown v place new
+  pub not-above : countFor n v + shown v place new ≤ pixels + shown v place old
+
+module _ (n : PixelCounts) (place old new : ℕ) where
+  abbrev fit : ℕ → Bool
+  fit v = fitsFor v (countFor n v) place old new
+
+  each-fits : mendable n place old new ≡ true → (v : ℕ) → v < 4 → fit v ≡ true
+  unfolding mendable
+  each-fits t zero h = both-left (fit 0) (fit 1) (both-left (fit 0 && fit 1) (fit 2) (both-left (fit 0 && fit 1 && fit 2) (fit 3) t))
+  each-fits t (suc zero) h = both-right (fit 0) (fit 1) (both-left (fit 0 && fit 1) (fit 2) (both-left (fit 0 && fit 1 && fit 2) (fit 3) t))
+  each-fits t (suc (suc zero)) h = both-right (fit 0 && fit 1) (fit 2) (both-left (fit 0 && fit 1 && fit 2) (fit 3) t)
+  each-fits t (suc (suc (suc zero))) h = both-right (fit 0 && fit 1 && fit 2) (fit 3) t
+  each-fits t (suc (suc (suc (suc v)))) h = absurd (omega arith)
+
+  all-fit : ((v : ℕ) → v < 4 → fit v ≡ true) → mendable n place old new ≡ true
+  unfolding mendable
+  all-fit h = simp (h 0 (omega arith), h 1 (omega arith), h 2 (omega arith), h 3 (omega arith))
+
+  -- they can be mended exactly if that is so of every value
+  pub mendable-exactly : (mendable n place old new ≡ true) ↔ ((v : ℕ) → v < 4 → FitsFor n place old new v)
+  mendable-exactly = (there, back)
+    where
+      there : mendable n place old new ≡ true → (v : ℕ) → v < 4 → FitsFor n place old new v
+      there t v h =
+          let so = so-fits (countFor n v) (shown v place old) (shown v place new) (each-fits t v h) in
+          record { not-below = so .0; not-above = so .1 }
+
+      back : ((v : ℕ) → v < 4 → FitsFor n place old new v) → mendable n place old new ≡ true
+      back f = all-fit (λ v h. let so = f v h in fits-so _ _ _ (so .not-below) (so .not-above))
+
+  -- of each value the count after, by its own rule
+  of-each : (v : ℕ) → v < 4 → countFor (mended n place old new) v ≡ movedFor v (countFor n v) place old new
+  unfolding mended
+  of-each zero h = refl
+  of-each (suc zero) h = refl
+  of-each (suc (suc zero)) h = refl
+  of-each (suc (suc (suc zero))) h = refl
+  of-each (suc (suc (suc (suc v)))) h = absurd (omega arith)
+
+  -- each count moves by exactly what left and what joined
+  pub moves-exactly :
+      mendable n place old new ≡ true → (v : ℕ) → v < 4
+      → countFor (mended n place old new) v + shown v place old ≡ countFor n v + shown v place new
+  moves-exactly t v h =
+      ap (λ (k : ℕ). k + shown v place old) (of-each v h) ∙ moves-by (countFor n v) (shown v place old) (shown v place new) (each-fits t v h)
+
+  -- and stays allowed
+  pub mended-allowed : allowedCounts n ≡ true → allowedCounts (mended n place old new) ≡ true
+  mended-allowed h =
+      four-allowed (mended n place old new) (λ v l.
+      subst (λ (k : ℕ). k ≤ pixels) (sym (of-each v l)) (moved-low (countFor n v) (shown v place old) (shown v place new) (low v l)))
+    where
+      low : (v : ℕ) → v < 4 → countFor n v ≤ pixels
+      low zero l = count-bound n h 0
+      low (suc zero) l = count-bound n h 1
+      low (suc (suc zero)) l = count-bound n h 2
+      low (suc (suc (suc zero))) l = count-bound n h 3
+      low (suc (suc (suc (suc v)))) l = absurd (omega arith)
+
+-- ---- true counts, where byte x is stored at place i of the memory
+
+module _ (m : List ℕ) (i x : ℕ) (there : i < length m) (is-place : i < places) where
+  true-fits : (v : ℕ) → v < 4 → fits (countOf v m) (shown v i (getD m i 0)) (shown v i x) ≡ true
+  true-fits v h =
+      let step = set-moves v m i x there is-place in
+      let low = Sums.count-low (set m i x) v h in
+      fits-so (countOf v m) (shown v i (getD m i 0)) (shown v i x) (omega (arith, step)) (omega (arith, step, low))
+
+  -- they can always be mended
+  pub true-mendable : mendable (countsOf m) i (getD m i 0) x ≡ true
+  unfolding countsOf mendable
+  true-mendable = simp (true-fits 0 (omega arith), true-fits 1 (omega arith), true-fits 2 (omega arith), true-fits 3 (omega arith))
+
+  stays : (v : ℕ) → v < 4 → moved (countOf v m) (shown v i (getD m i 0)) (shown v i x) ≡ countOf v (set m i x)
+  stays v h =
+      let step = set-moves v m i x there is-place in
+      let by = moves-by (countOf v m) (shown v i (getD m i 0)) (shown v i x) (true-fits v h) in
+      omega (arith, step, by)
+
+  -- and are true then
+  pub stays-true : mended (countsOf m) i (getD m i 0) x ≡ countsOf (set m i x)
+  unfolding countsOf mended
+  stays-true = simp (stays 0 (omega arith), stays 1 (omega arith), stays 2 (omega arith), stays 3 (omega arith))
+
+-- ---- a cleared memory
+
+module _ (m : List ℕ) (clear : (k : ℕ) → getD m k 0 ≡ 0) where
+  none-there : (k : ℕ) → valueIn 0 k ≡ 0
+  none-there k = simp zero-div
+
+  clear-row : (v row n : ℕ) → inRow v m row n ≡ ofValue v 0 * n
+  unfolding inRow
+  clear-row v row zero = omega arith
+  clear-row v row (suc n) = simp (clear, none-there) (omega (arith, clear-row v row n))
+
+  clear-rows : (v n : ℕ) → inRows v m n ≡ ofValue v 0 * (101 * n)
+  unfolding inRows
+  clear-rows v zero = omega arith
+  clear-rows v (suc n) = omega (arith, clear-rows v n, clear-row v n 101)
+
+  pub cleared-counts : countsOf m ≡ cleared
+  unfolding countsOf countOf
+  cleared-counts = simp (clear-rows 0 67, clear-rows 1 67, clear-rows 2 67, clear-rows 3 67)
+
+-- ---- a counting start
+
+-- refused by 1 exactly where the memory is not 1,717 long; else its counts are true
+pub start-counts : (m : List ℕ) → length m ≡ places → countingStart m ≡ counted 0 (countsOf m)
+unfolding countingStart
+start-counts m h = simp (eq-eqb _ _ h)

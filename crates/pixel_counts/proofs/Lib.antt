@@ -1,0 +1,4 @@
+pub mod CodeWays
+pub mod Places
+pub mod Laws
+pub mod Sums

@@ -1,0 +1,51 @@
+-- The counts mended where one byte takes the place of another (document 02, W8): the pixels of the old byte leave, those of the new one join.
+use mathlib.Core.Bool.{Bool, cond, _&&_}
+use Prim.Native.Nat.{ℕ, zero, suc, _+_, _-_}
+use lib.Dec.{leb, ltb}
+use Rattle.registers.specs.declared.PixelCounts.{PixelCounts}
+use Rattle.registers.specs.Record.{pixels, countFor, byValue}
+use Rattle.glass.specs.Pixel.{valueIn}
+use Rattle.pixel_counts.specs.Counts.{ofValue}
+
+-- of the lowest k pixels of a byte, those of value v
+unfoldable pub tally : ℕ → ℕ → ℕ → ℕ
+tally zero v b = 0
+tally (suc k) v b = ofValue v (valueIn b k) + tally k v b
+
+-- a bank has four rows, bank 16, which begins at place 1,616, three: bits 6 and 7 of its bytes are on no row of the glass
+abbrev pub pixelsAt : ℕ → ℕ
+pixelsAt place = cond (ltb place 1616) 4 3
+
+-- those of value v that byte b has on the glass, where it stands at this place
+unfoldable pub shown : ℕ → ℕ → ℕ → ℕ
+shown v place b = tally (pixelsAt place) v b
+
+-- ---- a count that `left` pixels leave and `joined` pixels join
+
+-- it would not be below 0, nor above all pixels
+abbrev pub fits : ℕ → ℕ → ℕ → Bool
+fits n left joined = leb left (n + joined) && leb (n + joined) (pixels + left)
+
+-- the count after that; where there is no such count it stays, and the event was refused before
+abbrev pub moved : ℕ → ℕ → ℕ → ℕ
+moved n left joined = cond (fits n left joined) (n + joined - left) n
+
+-- ---- byte `new` takes the place of byte `old`
+
+-- for one value, n being its count: judged by the whole byte, not pixel by pixel
+abbrev pub fitsFor : ℕ → ℕ → ℕ → ℕ → ℕ → Bool
+fitsFor v n place old new = fits n (shown v place old) (shown v place new)
+
+abbrev pub movedFor : ℕ → ℕ → ℕ → ℕ → ℕ → ℕ
+movedFor v n place old new = moved n (shown v place old) (shown v place new)
+
+-- for all four
+unfoldable pub mendable : PixelCounts → ℕ → ℕ → ℕ → Bool
+mendable n place old new =
+    fitsFor 0 (countFor n 0) place old new
+    && fitsFor 1 (countFor n 1) place old new
+    && fitsFor 2 (countFor n 2) place old new
+    && fitsFor 3 (countFor n 3) place old new
+
+unfoldable pub mended : PixelCounts → ℕ → ℕ → ℕ → PixelCounts
+mended n place old new = byValue (λ v. movedFor v (countFor n v) place old new)
