@@ -7,7 +7,7 @@ use native.Mathlib.Omega.{arith}
 use lib.ListN.{set}
 use Rattle.registers.specs.declared.Phase.{Phase}
 use Rattle.registers.specs.declared.Phase.the-variants.{Idle, AddressAwaited, Ignoring, ControlAwaited, OneByte, EndlessBytes, Reading, ReadEnded}
-use Rattle.registers.specs.Record.{inPhase, withRegisters}
+use Rattle.registers.specs.Record.{inPhase, withRegisters, withPixels}
 use Rattle.registers.specs.State.{State}
 use Rattle.registers.proofs.Below.{false-true, true-false}
 use Rattle.phases.specs.Phases.{phaseAfterContent}
@@ -18,7 +18,7 @@ use Rattle.engine.specs.declared.event.Event.the-variants.{Byte, Start, Stop, R
 use Rattle.engine.specs.Event.{eventOf, isByte}
 use Rattle.chip.specs.Phases.{awaitsData, awaitsCommand, ignoresBytes, phaseAfterIgnored}
 use Rattle.chip.specs.Promised.{Acknowledged, NotAcknowledged, Command, after, nothingStored, refusalOf, stepOf, commandOf, answerTo, storedOf}
-use Rattle.chip.specs.Promised.{placeOf, nextAddress, Answer, CommandAnswer, Refused, Nothing, Read, After}
+use Rattle.chip.specs.Promised.{placeOf, nextAddress, pixelsAfter, Answer, CommandAnswer, Refused, Nothing, Read, After}
 use Rattle.chip.specs.Effects.{displayed}
 use Rattle.chip.proofs.Refusals.{accepted-step}
 
@@ -44,7 +44,9 @@ command-at ReadEnded b s t = absurd (false-true t)
 pub display-at :
     (p : Phase) (b : ℕ) (s : State) → awaitsData p ≡ true
     → onByte p b s
-    ≡ after Acknowledged (withRegisters (inPhase (s .chip) (phaseAfterContent p)) (nextAddress (s .chip .registers)))
+    ≡ after Acknowledged
+    (withPixels (withRegisters (inPhase (s .chip) (phaseAfterContent p)) (nextAddress (s .chip .registers)))
+    (pixelsAfter (s .chip .registers) (s .chip .pixels) (s .memory) b))
     (set (s .memory) (placeOf (s .chip .registers)) (storedOf (s .chip .registers) b)) (set (s .writers) (placeOf (s .chip .registers)) (s .count)) (s .count)
 display-at Idle b s t = absurd (false-true t)
 display-at AddressAwaited b s t = absurd (false-true t)

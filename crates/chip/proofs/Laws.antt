@@ -1,17 +1,22 @@
 -- What is promised of the chip, in one place: read this file first. The work stands in the files beside it.
 use mathlib.Core.Bool.{true}
-use mathlib.Core.List.{List, _++_}
+use mathlib.Core.List.{List, [], _∷_, _++_}
 use mathlib.Core.Logic.{_↔_, inl}
 use mathlib.Core.Path.{_≡_, refl, sym, ap, _∙_, subst}
 use Prim.Native.Nat.{ℕ, zero, suc, _+_, _*_, _<_, _≤_}
 use native.Mathlib.Nat.{suc-ne-zero}
 use native.Mathlib.Omega.{arith}
+use lib.ListN.{getD}
 use Rattle.registers.specs.declared.Phase.the-variants.{Idle, AddressAwaited, ControlAwaited}
 use Rattle.registers.specs.Encode.{rowByte}
-use Rattle.registers.specs.Record.{inPhase, withRegisters}
+use Rattle.registers.specs.declared.PixelCounts.{PixelCounts}
+use Rattle.registers.specs.Record.{inPhase, withRegisters, pixels, countFor}
 use Rattle.registers.specs.State.{State, state}
 use Rattle.registers.proofs.TableTest.{rowNo}
 use Rattle.registers.proofs.Within.{allowed-registers}
+use Rattle.pixel_counts.specs.Counts.{countsOf}
+use Rattle.pixel_counts.proofs.Laws.{counts-add, mendable-exactly, moves-exactly}
+use Rattle.display.specs.Display.{pixelsAfter}
 use Rattle.commands.proofs.Answers.{answer-exactly, untaken-kept, nop-taken, return-taken, swap-taken}
 use Rattle.engine.specs.declared.event.Event.{Event}
 use Rattle.engine.specs.Run.{runOf, unlessStopped, runFrom}
@@ -20,19 +25,21 @@ use Rattle.phases.specs.Changes.{readByte}
 use Rattle.engine.specs.Step.{accepted, applied, stepOf, counted}
 use Rattle.engine.proofs.Allowed.{accepted-fit}
 use Rattle.engine.proofs.Events.{sensor-event}
+use Rattle.engine.proofs.Pixels.{accepted-true, accepted-kept}
 use Rattle.engine.proofs.Tallies.{tally-refused}
 use Rattle.engine.proofs.Refusals.{entry-fit, accepts}
 use Rattle.chip.specs.Effects.{displayed}
-use Rattle.chip.specs.LastWriter.{PlaceAfter, LastWriter}
+use Rattle.chip.specs.LastWriter.{before, PlaceAfter, LastWriter}
 use Rattle.chip.specs.Phases.{awaitsData, awaitsCommand, ignoresBytes, phaseAfterIgnored}
 use Rattle.chip.specs.Promised.{CommandAnswer, Taken, Refused, Nothing, Acknowledged, NotAcknowledged, Command, Read, After, nothingStored, Fit, entryRefusal, refusalOf, isAddressed}
 use Rattle.chip.specs.Promised.{acknowledge, phaseAfterAddress, controlled, phaseAfterLastRead, pulsed, sensed, commandOf, answerTo, CommandWhen, countUnless, tally}
+use Rattle.chip.specs.Promised.{storedOf, placeOf, shown, TrueCounts}
 use Rattle.chip.specs.Runs.{continued, StepByStep, tallyOver}
-use Rattle.chip.specs.When.{When}
+use Rattle.chip.specs.When.{ComesAsData, When, none, not-long, not-allowed, not-listed, count-full, goes-out}
 use Rattle.chip.proofs.Events.{by-phase, in-known-phase, command-at, display-step, ignored-at, answered-command, same-command}
 use Rattle.chip.proofs.Held.{held-does}
 use Rattle.chip.proofs.LastWriter.{from-written, idle, counts-accepted}
-use Rattle.chip.proofs.Refusals.{refusal-when, when-so, accepted-step}
+use Rattle.chip.proofs.Refusals.{refusal-when, when-so, accepted-step, accepted-when, true-accepts, no-data}
 use Rattle.chip.proofs.Runs.{from-append, from-fit, from-steps, entry-stops}
 use Rattle.chip.proofs.Tallies.{from-tallies, from-tallies-append, entry-tallies, at-most-done}
 
@@ -42,17 +49,17 @@ use Rattle.chip.proofs.Tallies.{from-tallies, from-tallies-append, entr
 pub exactly-when : (e : ℕ) (s : State) (k : ℕ) → (refusalOf e s ≡ k) ↔ When e s k
 exactly-when e s k = (λ q. subst (λ (n : ℕ). When e s n) q (refusal-when e s), when-so e s k)
 
--- and there is none above 4
-pub refusal-at-most : (e : ℕ) (s : State) → refusalOf e s ≤ 4
-refusal-at-most e s = go (refusalOf e s) (refusal-when e s)
+-- and there is none above 16
+pub refusal-at-most : (e : ℕ) (s : State) → refusalOf e s ≤ 16
+refusal-at-most e s = go (refusal-when e s)
   where
-    go : (k : ℕ) → When e s k → k ≤ 4
-    go zero w = omega arith
-    go (suc zero) w = omega arith
-    go (suc (suc zero)) w = omega arith
-    go (suc (suc (suc zero))) w = omega arith
-    go (suc (suc (suc (suc zero)))) w = omega arith
-    go (suc (suc (suc (suc (suc k))))) w = absurd w
+    go : {k : ℕ} → When e s k → k ≤ 16
+    go (none a) = omega arith
+    go (not-long l) = omega arith
+    go (not-allowed l a) = omega arith
+    go (not-listed f l) = omega arith
+    go (count-full f l c) = omega arith
+    go (goes-out f r o) = omega arith
 
 -- a refused event gives its number, and changes nothing
 pub refused : (e : ℕ) (s : State) (k : ℕ) → refusalOf e s ≡ suc k → stepOf e s ≡ record { answer = Refused (suc k); state = s }
@@ -120,6 +127,48 @@ module _ (s : State) where
     pub ignored-law : ignoresBytes (s .chip .phase) ≡ true → stepOf b s ≡ nothingStored NotAcknowledged (inPhase (s .chip) (phaseAfterIgnored (s .chip .phase))) (counted s)
     ignored-law t =
         by-phase s b is-byte h ∙ ignored-at (s .chip .phase) b (counted s) refl t
+
+-- ---- the pixels by value (document 02, W8)
+
+-- true before an event, true after it, whatever the event, accepted or not
+pub stays-true : (e : ℕ) (s : State) → TrueCounts s → TrueCounts (stepOf e s .state)
+stays-true e s t = go (refusalOf e s) refl
+  where
+    go : (k : ℕ) → refusalOf e s ≡ k → TrueCounts (stepOf e s .state)
+    go zero h = rw (accepted-step e s h) (accepted-true e s (accepts e s h .fit) t)
+    go (suc k) h = rw (refused e s k h) t
+
+-- true counts add up to all pixels, and are never a reason for 16
+pub true-counts-add : (s : State) → TrueCounts s → s .chip .pixels .zeros + s .chip .pixels .ones + s .chip .pixels .twos + s .chip .pixels .threes ≡ pixels
+unfolding countsOf
+true-counts-add s t =
+    ap (λ (n : PixelCounts). n .zeros + n .ones + n .twos + n .threes) t ∙ counts-add (s .memory)
+
+pub true-never-16 : (e : ℕ) (s : State) → TrueCounts s → refusalOf e s ≡ 16 → ⊥
+true-never-16 e s t h = go (exactly-when e s 16 .0 h)
+  where
+    go : When e s 16 → ⊥
+    go (goes-out fit room out) =
+        let none-there = true-accepts e s fit t (inl (omega (arith, out .comes .is-byte))) room in
+        let z : _≡_ {A = ℕ} 0 16 = sym none-there ∙ h in
+        omega arith
+
+-- counts of any kind: at an accepted display byte each of them moves by exactly what left, the pixels of the byte that stood at the address, and
+-- what joined, those of the byte that is stored; at any other accepted event none moves, not at a reset pulse either
+pub counts-move :
+    (e : ℕ) (s : State) → refusalOf e s ≡ 0 → ComesAsData e s → let place = placeOf (s .chip .registers) in
+    (v : ℕ) → v < 4
+    → countFor (stepOf e s .state .chip .pixels) v + shown v place (getD (s .memory) place 0)
+    ≡ countFor (s .chip .pixels) v + shown v place (storedOf (s .chip .registers) e)
+unfolding pixelsAfter
+counts-move e s h comes v l =
+    ap (λ (x : After). countFor (x .state .chip .pixels) v + shown v (placeOf (s .chip .registers)) (getD (s .memory) (placeOf (s .chip .registers)) 0))
+    (display-law s e (comes .is-byte) h (comes .is-data))
+    ∙ moves-exactly (s .chip .pixels) _ _ _ (mendable-exactly _ _ _ _ .1 (accepted-when e s h .counts-stay-in comes)) v l
+
+pub counts-kept :
+    (e : ℕ) (s : State) → refusalOf e s ≡ 0 → (ComesAsData e s → ⊥) → stepOf e s .state .chip .pixels ≡ s .chip .pixels
+counts-kept e s h none-comes = rw (accepted-step e s h) (accepted-kept e s (no-data e s none-comes))
 
 -- taken, unknown or out of range: each exactly when an accepted byte comes as a command, and the sheet says so of it in the present page
 pub answered-exactly :
@@ -232,6 +281,15 @@ run-stays-fit es s fit = go (entryRefusal s)
     go : (x : ℕ) → Fit (unlessStopped x 0 s (runFrom 0 es s) .state)
     go zero = from-fit 0 es s fit
     go (suc x) = fit
+
+-- true counts stay true over a run
+pub run-stays-true : (es : List ℕ) (s : State) → TrueCounts s → TrueCounts (runOf es s .state)
+run-stays-true es s t = subst TrueCounts (sym (run-steps es s .ends)) (over es (runOf es s .done) s t)
+  where
+    over : (xs : List ℕ) (n : ℕ) (q : State) → TrueCounts q → TrueCounts (before xs n q)
+    over [] n q t = t
+    over (x ∷ xs) zero q t = t
+    over (x ∷ xs) (suc n) q t = over xs n (stepOf x q .state) (stays-true x q t)
 
 -- the last writer, demand 2: at every place either nothing was stored and byte and writer are as they were, or the last display byte that was stored
 -- there is named by the writer and its stored byte is there

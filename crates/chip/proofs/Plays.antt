@@ -26,10 +26,10 @@ use Rattle.chip.specs.Phases.{awaitsCommand}
 use Rattle.chip.specs.Promised.{After, Command, Taken, Fit, refusalOf, stepOf, outcome, storedOf, placeOf, nextAddress}
 use Rattle.commands.specs.Command.{commandOf, answerTo}
 use Rattle.chip.specs.When.{ListedEvent}
-use Rattle.chip.proofs.Laws.{exactly-when, stays-fit, count-law, start-law, stop-law, address-law, control-law, command-law, display-law}
+use Rattle.chip.proofs.Laws.{stays-fit, stays-true, count-law, start-law, stop-law, address-law, control-law, command-law, display-law}
 use Rattle.registers.proofs.Below.{true-false}
 use Rattle.registers.proofs.Within.{allowed-pins}
-use Rattle.chip.proofs.Refusals.{accepted-step}
+use Rattle.chip.proofs.Refusals.{accepted-step, true-accepts}
 
 -- ---- playing
 
@@ -62,7 +62,7 @@ record Stands (p : Phase) (r : Registers) (m : List ℕ) (pins n : ℕ) (s : Sta
 
 module _ (r : Registers) (m : List ℕ) (pins n : ℕ) (s : State) (v : Visible r m pins (suc n) s) where
   accepts : (e : ℕ) → ListedEvent e → refusalOf e s ≡ 0
-  accepts e l = exactly-when e s 0 .1 (v .fit, l, λ q. omega (arith, v .room))
+  accepts e l = true-accepts e s (v .fit) (v .true-counts) l (λ q. omega (arith, v .room))
 
   accepts-byte : (b : ℕ) → b < 256 → refusalOf b s ≡ 0
   accepts-byte b h = accepts b (inl (omega arith))
@@ -79,6 +79,7 @@ module _ (r : Registers) (m : List ℕ) (pins n : ℕ) (s : State) (v : Visible 
           memory = ap (λ (x : After). x .state .memory) step ∙ em;
           pins-are = ap (λ (x : After). x .state .chip .pins) step ∙ epins;
           fit = stays-fit e s h (v .fit);
+          true-counts = stays-true e s (v .true-counts);
           room = omega (arith, v .room, count-law e s h);
         };
         phase = ap (λ (x : After). x .state .chip .phase) step ∙ ep;

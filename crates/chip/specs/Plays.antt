@@ -7,7 +7,7 @@ use lib.ListN.{set}
 use Rattle.registers.specs.declared.Registers.{Registers}
 use Rattle.registers.specs.State.{State}
 use Rattle.chip.specs.Phases.{awaitsCommand}
-use Rattle.chip.specs.Promised.{Command, Taken, isAcknowledged, Fit, refusalOf, stepOf, commandOf, answerTo, storedOf, placeOf, nextAddress}
+use Rattle.chip.specs.Promised.{Command, Taken, isAcknowledged, Fit, refusalOf, stepOf, commandOf, answerTo, storedOf, placeOf, nextAddress, TrueCounts}
 
 -- the event is not refused, and if it is a byte it is acknowledged; if that is a command byte, it is taken
 pub record Good (e : ℕ) (s : State) : Type 0 where
@@ -25,12 +25,14 @@ abbrev pub played : List ℕ → State → State
 played [] s = s
 played (e ∷ es) s = played es (stepOf e s .state)
 
--- what can be seen of a state from outside: registers, display memory, pins, that 1 and 2 let it pass, and room for n more events
+-- what can be seen of a state from outside: registers, display memory, pins, that 1 and 2 let it pass, that its counts of pixels are true, and room
+-- for n more events
 pub record Visible (r : Registers) (m : List ℕ) (pins n : ℕ) (s : State) : Type 0 where
   pub registers : s .chip .registers ≡ r
   pub memory : s .memory ≡ m
   pub pins-are : s .chip .pins ≡ pins
   pub fit : Fit s
+  pub true-counts : TrueCounts s
   pub room : s .count + n < 2 ^ 64
 
 -- ---- messages

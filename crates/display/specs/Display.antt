@@ -1,11 +1,15 @@
--- Display bytes (document 01): what is stored, at which place, and how the address counter moves on.
-use mathlib.Core.Bool.{cond}
+-- Display bytes (document 01): what is stored, at which place, how the address counter moves on, and what comes of the pixels by value.
+use mathlib.Core.Bool.{Bool, cond}
+use mathlib.Core.List.{List}
 use Prim.Native.Nat.{ℕ, _+_, _*_, _%_, _-_}
 use lib.Dec.{ltb, eqb}
+use lib.ListN.{getD}
+use Rattle.registers.specs.declared.PixelCounts.{PixelCounts}
 use Rattle.registers.specs.declared.Registers.{Registers}
 use Rattle.registers.specs.Places.{X, Y}
 use Rattle.registers.specs.Record.{put}
 use Rattle.registers.specs.Reversed.{ordered}
+use Rattle.pixel_counts.specs.Mending.{mendable, mended}
 
 -- after the swap of DO = 1, bank 16 keeps six bits
 abbrev pub kept : ℕ → ℕ → ℕ
@@ -38,3 +42,13 @@ nextY v x y = cond (eqb v 1) (next y 16) (nextOnWrap x 100 y 16)
 
 unfoldable pub nextAddress : Registers → Registers
 nextAddress r = put Y (nextY (r .v) (r .x) (r .y)) (put X (nextX (r .v) (r .x) (r .y)) r)
+
+-- ---- the pixels by value (document 02, W8): those of the byte that stood at the address leave, those of the byte as it is stored join
+
+-- there are such counts
+unfoldable pub pixelsFit : Registers → PixelCounts → List ℕ → ℕ → Bool
+pixelsFit r n m b = mendable n (placeOf r) (getD m (placeOf r) 0) (storedOf r b)
+
+-- the counts after that
+unfoldable pub pixelsAfter : Registers → PixelCounts → List ℕ → ℕ → PixelCounts
+pixelsAfter r n m b = mended n (placeOf r) (getD m (placeOf r) 0) (storedOf r b)

@@ -1,8 +1,10 @@
-// Display bytes: what is stored, where, and how the address counter moves on.
+// Display bytes: what is stored, where, how the address counter moves on, and what comes of the pixels by value.
 ghost use mathlib.Core.Path.{_≡_};
 ghost use lib.ListN.{set};
-ghost use Rattle.display.specs.Display.{kept, storedOf, columnOf, placeOf, next, nextOnWrap, nextAddress};
+ghost use Rattle.display.specs.Display.{kept, storedOf, columnOf, placeOf, next, nextOnWrap, nextAddress, pixelsFit, pixelsAfter};
+use registers::PixelCounts;
 use registers::Registers;
+use registers::entry::entry;
 
 // Bank 16 has six bits.
 fn kept_in_bank(bank: u8, byte: u8) -> u8
@@ -106,4 +108,25 @@ pub fn display_byte(
     store_byte(memory, at, stored(registers, byte));
     store_number(writers, at, number);
     moved_on(registers)
+}
+
+// Whether there are counts of pixels after this display byte: the byte that stands at the address leaves, and the byte as it is stored joins.
+pub fn pixels_fit(registers: Registers, pixels: PixelCounts, memory: &[u8], byte: u8) -> bool
+    ensures { λ r. ⌜ r ≡ pixelsFit registers pixels (now (memory .entry)) byte ⌝ }
+{
+    let at = place(registers);
+    pixel_counts::mending::mendable(pixels, at, entry(memory, at), stored(registers, byte))
+}
+
+// Those counts. They are made before the byte is stored.
+pub fn pixels_after(
+    registers: Registers,
+    pixels: PixelCounts,
+    memory: &[u8],
+    byte: u8,
+) -> PixelCounts
+    ensures { λ r. ⌜ r ≡ pixelsAfter registers pixels (now (memory .entry)) byte ⌝ }
+{
+    let at = place(registers);
+    pixel_counts::mending::mended(pixels, at, entry(memory, at), stored(registers, byte))
 }

@@ -1,18 +1,19 @@
 -- An allowed record stays allowed after any accepted event, and the lent memories keep their length.
 use mathlib.Core.Path.{_≡_, refl, _∙_}
 use mathlib.Core.Bool.{Bool, true, false}
+use mathlib.Core.List.{List}
 use Prim.Native.Nat.{ℕ, _<_}
-use lib.Dec.{leb}
 use lib.ListN.{length-set}
 use Rattle.registers.specs.declared.Registers.{Registers}
 use Rattle.registers.specs.declared.Chip.{Chip}
 use Rattle.registers.specs.declared.Phase.{Phase}
 use Rattle.registers.specs.declared.Phase.the-variants.{Idle, AddressAwaited, Ignoring, ControlAwaited, OneByte, EndlessBytes, Reading, ReadEnded}
-use Rattle.registers.specs.Record.{allowed, allowedRegisters, withRegisters, inPhase}
+use Rattle.registers.specs.Record.{allowed, allowedRegisters, withRegisters, withPixels, inPhase}
 use Rattle.registers.specs.State.{State, state}
-use Rattle.registers.proofs.Within.{allowed-registers, both-right}
+use Rattle.registers.proofs.Within.{allowed-registers, allowed-pins, allowed-counts, allowed-parts}
 use Rattle.commands.proofs.Allowed.{command-allowed}
-use Rattle.display.specs.Display.{placeOf, storedOf}
+use Rattle.pixel_counts.proofs.Laws as Pixels
+use Rattle.display.specs.Display.{placeOf, storedOf, pixelsAfter}
 use Rattle.display.proofs.Address.{place-bound, next-allowed}
 use Rattle.phases.specs.Changes.{controlled, pulsed, sensed}
 use Rattle.engine.specs.declared.event.Event.{Event}
@@ -26,8 +27,15 @@ fit-place s fit = place-bound (s .chip .registers) (allowed-registers (s .chip) 
 
 with-registers-allowed :
     (c : Chip) (p : Phase) (r : Registers) → allowed c ≡ true → allowedRegisters r ≡ true → allowed (withRegisters (inPhase c p) r) ≡ true
-unfolding allowed
-with-registers-allowed c p r h hr = simp (hr, both-right (allowedRegisters (c .registers)) (leb (c .pins) 3) h)
+with-registers-allowed c p r h hr = allowed-parts (withRegisters (inPhase c p) r) hr (allowed-pins c h) (allowed-counts c h)
+
+-- the counts stay allowed too, since one that could not be mended would stay as it is
+mended-allowed :
+    (c : Chip) (p : Phase) (r : Registers) (m : List ℕ) (b : ℕ) → allowed c ≡ true → allowedRegisters r ≡ true
+    → allowed (withPixels (withRegisters (inPhase c p) r) (pixelsAfter (c .registers) (c .pixels) m b)) ≡ true
+unfolding pixelsAfter
+mended-allowed c p r m b h hr =
+    allowed-parts (withPixels (withRegisters (inPhase c p) r) _) hr (allowed-pins c h) (Pixels.mended-allowed (c .pixels) _ _ _ (allowed-counts c h))
 
 content-fit : (rs : Bool) (p : Phase) (b : ℕ) (s : State) → Fit s → Fit (contentOf rs p b s .state)
 content-fit false p b s fit =
@@ -42,7 +50,7 @@ content-fit true p b s fit =
     record {
       memory-long = length-set (s .memory) (placeOf (s .chip .registers)) (storedOf (s .chip .registers) b) ∙ fit .memory-long;
       writers-long = length-set (s .writers) (placeOf (s .chip .registers)) (s .count) ∙ fit .writers-long;
-      is-allowed = with-registers-allowed (s .chip) p _ (fit .is-allowed) (next-allowed (s .chip .registers) before);
+      is-allowed = mended-allowed (s .chip) p _ (s .memory) b (fit .is-allowed) (next-allowed (s .chip .registers) before);
     }
 
 -- another record with the same registers and pins
@@ -71,7 +79,7 @@ applied-fit Reset s fit =
     record {
       memory-long = fit .memory-long;
       writers-long = fit .writers-long;
-      is-allowed = both-right (allowedRegisters (s .chip .registers)) (leb (s .chip .pins) 3) (fit .is-allowed);
+      is-allowed = allowed-parts (pulsed (s .chip)) refl (allowed-pins (s .chip) (fit .is-allowed)) (allowed-counts (s .chip) (fit .is-allowed));
     }
 applied-fit (Sensor value) s fit = same-fit s _ refl fit
 applied-fit Unlisted s fit = same-fit s _ refl fit

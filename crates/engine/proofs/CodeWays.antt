@@ -10,13 +10,14 @@ use lib.Seq.{drop-cons, drop-length}
 use Rattle.registers.specs.declared.Registers.{Registers}
 use Rattle.registers.specs.declared.Chip.{Chip}
 use Rattle.registers.specs.declared.Phase.{Phase}
+use Rattle.registers.specs.declared.PixelCounts.{PixelCounts}
 use Rattle.registers.specs.declared.Phase.the-variants.{Idle, AddressAwaited, Ignoring, ControlAwaited, OneByte, EndlessBytes, Reading, ReadEnded}
-use Rattle.registers.specs.Record.{phaseRs, inPhase, withRegisters}
+use Rattle.registers.specs.Record.{phaseRs, inPhase, withRegisters, withPixels}
 use Rattle.registers.specs.Refusals.{_then_}
 use Rattle.registers.specs.State.{State, state}
 use Rattle.commands.specs.declared.answer.CommandAnswer.{CommandAnswer}
 use Rattle.commands.specs.Command.{commandOf, answerTo}
-use Rattle.display.specs.Display.{storedOf, placeOf, nextAddress}
+use Rattle.display.specs.Display.{storedOf, placeOf, nextAddress, pixelsAfter}
 use Rattle.phases.specs.Phases.{awaitsContent, phaseAfterContent}
 use Rattle.engine.specs.declared.answer.Answer.{Answer}
 use Rattle.engine.specs.declared.answer.Answer.the-variants.{Refused, Nothing, Acknowledged, Command}
@@ -24,7 +25,7 @@ use Rattle.engine.specs.declared.event.Event.{Event}
 use Rattle.engine.specs.Event.{eventOf, isByte, countsAs}
 use Rattle.engine.specs.Run.{Outcome, outcome, runFrom, runOf, unlessStopped, countUnless, tally, answerUnless, answerFrom, lastAnswer}
 use Rattle.engine.specs.Step.{After, after, nothingStored, contentOf, onByte, applied, accepted}
-use Rattle.engine.specs.Step.{entryRefusal, eventRefusal, refusalOf, unlessRefused, stepOf}
+use Rattle.engine.specs.Step.{entryRefusal, eventRefusal, pixelRefusal, refusalOf, unlessRefused, stepOf}
 use Rattle.engine.proofs.Events.{byte-event}
 use Rattle.engine.proofs.Tallies.{counted-once}
 
@@ -32,12 +33,14 @@ use Rattle.engine.proofs.Tallies.{counted-once}
 
 module _ (rs : Bool) (p : Phase) (b : ℕ) (s : State) where
   pub display-content :
-      (moved c′ : Chip) (next : Registers) (m w : List ℕ) → rs ≡ true → moved ≡ inPhase (s .chip) p → next ≡ nextAddress (s .chip .registers)
+      (moved there c′ : Chip) (next : Registers) (n : PixelCounts) (m w : List ℕ) → rs ≡ true → moved ≡ inPhase (s .chip) p
+      → n ≡ pixelsAfter (s .chip .registers) (s .chip .pixels) (s .memory) b
+      → next ≡ nextAddress (s .chip .registers)
       → m ≡ set (s .memory) (placeOf (s .chip .registers)) (storedOf (s .chip .registers) b)
       → w ≡ set (s .writers) (placeOf (s .chip .registers)) (s .count)
-      → c′ ≡ withRegisters moved next
+      → there ≡ withRegisters moved next → c′ ≡ withPixels there n
       → after Acknowledged c′ m w (s .count) ≡ contentOf rs p b s
-  display-content moved c′ next m w t e n em ew ec = simp (t, ec, e, n, em, ew)
+  display-content moved there c′ next n m w t e en er em ew et ec = simp (t, ec, et, e, er, en, em, ew)
 
   pub command-content :
       (moved c′ : Chip) (a : CommandAnswer) (next : Registers) → rs ≡ false → moved ≡ inPhase (s .chip) p
@@ -207,4 +210,4 @@ pub step-of-run :
     → record { answer = a; state = s′ } ≡ stepOf e s
 unfolding runOf runFrom lastAnswer stepOf refusalOf
 step-of-run e s s′ n k a eo ea =
-    rw (ea, ap (λ (o : Outcome). o .state) eo) (one-event (entryRefusal s) (eventRefusal e (s .count)) (accepted e s) s)
+    rw (ea, ap (λ (o : Outcome). o .state) eo) (one-event (entryRefusal s) (eventRefusal e (s .count) then pixelRefusal e (s .chip) (s .memory)) (accepted e s) s)

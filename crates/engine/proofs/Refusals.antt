@@ -5,16 +5,17 @@ use Prim.Native.Nat.{ℕ, _-_, _^_}
 use borrow.Author.Tests.{eqb-true, eqb-false, eq-eqb, not-false}
 use lib.Dec.{eqb}
 use lib.ListN.{length}
-use Rattle.registers.specs.Refusals.{refuse, recordRefusal, isListedEvent}
+use Rattle.registers.specs.Refusals.{refuse, _then_, recordRefusal, isListedEvent}
 use Rattle.registers.specs.State.{State, places}
 use Rattle.registers.proofs.Refusals.{then-zero, refuse-none, or-none}
-use Rattle.engine.specs.Step.{entryRefusal, eventRefusal, refusalOf, Fit}
+use Rattle.engine.specs.Step.{entryRefusal, eventRefusal, pixelRefusal, refusalOf, Fit}
 
 -- what none of the refusals leaves
 pub record Accepts (e : ℕ) (s : State) : Type 0 where
   pub fit : Fit s
   pub listed : isListedEvent e ≡ true
   pub room : s .count ≡ 2 ^ 64 - 1 → ⊥
+  pub pixels : pixelRefusal e (s .chip) (s .memory) ≡ 0
 
 pub entry-fit : (s : State) → entryRefusal s ≡ 0 → Fit s
 unfolding entryRefusal
@@ -36,10 +37,12 @@ fit-entry s fit = simp (eq-eqb _ _ (fit .memory-long), eq-eqb _ _ (fit .writers-
 pub accepts : (e : ℕ) (s : State) → refusalOf e s ≡ 0 → Accepts e s
 unfolding refusalOf eventRefusal
 accepts e s h =
-    let first = then-zero (entryRefusal s) (eventRefusal e (s .count)) h in
-    let later = then-zero (refuse (not (isListedEvent e)) 3) (refuse (eqb (s .count) (2 ^ 64 - 1)) 4) (first .1) in
+    let first = then-zero (entryRefusal s) (eventRefusal e (s .count) then pixelRefusal e (s .chip) (s .memory)) h in
+    let second = then-zero (eventRefusal e (s .count)) (pixelRefusal e (s .chip) (s .memory)) (first .1) in
+    let later = then-zero (refuse (not (isListedEvent e)) 3) (refuse (eqb (s .count) (2 ^ 64 - 1)) 4) (second .0) in
     record {
       fit = entry-fit s (first .0);
       listed = not-false _ (refuse-none _ 2 (later .0));
       room = eqb-false _ _ (refuse-none _ 3 (later .1));
+      pixels = second .1;
     }

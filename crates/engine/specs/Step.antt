@@ -1,18 +1,18 @@
--- One bus event (document 01, "Bus events", and 1 to 4 of "Numbers given back").
-use mathlib.Core.Bool.{Bool, true, false, cond, not}
+-- One bus event (document 01, "Bus events", and 1 to 4 of "Numbers given back"; 16 of document 02, W8).
+use mathlib.Core.Bool.{Bool, true, false, cond, not, _&&_}
 use mathlib.Core.List.{List}
 use mathlib.Core.Path.{_≡_}
 use Prim.Native.Nat.{ℕ, zero, suc, _+_, _-_, _^_}
-use lib.Dec.{eqb}
+use lib.Dec.{eqb, ltb}
 use lib.ListN.{length, set}
 use Rattle.registers.specs.declared.Chip.{Chip}
 use Rattle.registers.specs.declared.Phase.{Phase}
 use Rattle.registers.specs.declared.Phase.the-variants.{Idle, AddressAwaited, Ignoring, ControlAwaited, OneByte, EndlessBytes, Reading, ReadEnded}
-use Rattle.registers.specs.Record.{allowed, inPhase, withRegisters}
+use Rattle.registers.specs.Record.{allowed, phaseRs, inPhase, withRegisters, withPixels}
 use Rattle.registers.specs.Refusals.{refuse, _then_, lengthsRefusal, recordRefusal, isListedEvent}
 use Rattle.registers.specs.State.{State, state, places}
 use Rattle.commands.specs.Command.{commandOf, answerTo}
-use Rattle.display.specs.Display.{storedOf, placeOf, nextAddress}
+use Rattle.display.specs.Display.{storedOf, placeOf, nextAddress, pixelsFit, pixelsAfter}
 use Rattle.phases.specs.Changes.{controlled, readByte, pulsed, sensed}
 use Rattle.phases.specs.Phases.{isAddressed, phaseAfterAddress, phaseAfterLastRead}
 use Rattle.engine.specs.declared.event.Event.{Event}
@@ -35,8 +35,16 @@ entryRefusal s = entryFor (s .chip) (length (s .memory)) (length (s .writers))
 unfoldable pub eventRefusal : ℕ → ℕ → ℕ
 eventRefusal e count = refuse (not (isListedEvent e)) 3 then refuse (eqb count (2 ^ 64 - 1)) 4
 
+-- a byte from the master that comes as display data: RS 1 is that of such a byte alone
+abbrev pub isDisplayByte : ℕ → Phase → Bool
+isDisplayByte e p = ltb e 256 && phaseRs p
+
+-- 16: a display byte after which a count of pixels would be below 0 or above that of all pixels
+unfoldable pub pixelRefusal : ℕ → Chip → List ℕ → ℕ
+pixelRefusal e c m = refuse (isDisplayByte e (c .phase) && not (pixelsFit (c .registers) (c .pixels) m e)) 16
+
 unfoldable pub refusalOf : ℕ → State → ℕ
-refusalOf e s = entryRefusal s then eventRefusal e (s .count)
+refusalOf e s = entryRefusal s then eventRefusal e (s .count) then pixelRefusal e (s .chip) (s .memory)
 
 -- what 1 and 2 let pass
 pub record Fit (s : State) : Type 0 where
@@ -62,12 +70,13 @@ nothingStored a c s = after a c (s .memory) (s .writers) (s .count)
 unfoldable pub acknowledge : Bool → Answer
 acknowledge t = cond t Acknowledged NotAcknowledged
 
--- a byte with RS 0 is a command, one with RS 1 display data, stored with the event's number; then the phase is p
+-- a byte with RS 0 is a command, one with RS 1 display data, stored with the event's number, and the pixels by value are mended; then the phase is p
 abbrev pub contentOf : Bool → Phase → ℕ → State → After
 contentOf false p b s =
     nothingStored (Command (answerTo (s .chip .registers .h) b)) (withRegisters (inPhase (s .chip) p) (commandOf b (s .chip .registers))) s
 contentOf true p b s =
-    after Acknowledged (withRegisters (inPhase (s .chip) p) (nextAddress (s .chip .registers)))
+    after Acknowledged
+    (withPixels (withRegisters (inPhase (s .chip) p) (nextAddress (s .chip .registers))) (pixelsAfter (s .chip .registers) (s .chip .pixels) (s .memory) b))
     (set (s .memory) (placeOf (s .chip .registers)) (storedOf (s .chip .registers) b))
     (set (s .writers) (placeOf (s .chip .registers)) (s .count)) (s .count)
 

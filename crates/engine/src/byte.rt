@@ -82,10 +82,11 @@ fn content(
     let registers = chip.registers;
     let moved = chip.in_phase(phase);
     if rs {
+        let pixels = display::pixels_after(registers, chip.pixels, memory, byte);
         let next = display::display_byte(registers, memory, writers, byte, number);
         return Applied {
             answer: Answer::Acknowledged,
-            chip: moved.with_registers(next),
+            chip: moved.with_registers(next).with_pixels(pixels),
         };
     }
     let commanded = commands::command(registers, byte);

@@ -3,7 +3,7 @@ pub mod answer;
 mod apply;
 mod byte;
 pub mod event;
-mod refusal;
+pub mod refusal;
 pub mod run;
 mod sequence;
 pub mod step;

@@ -1,7 +1,10 @@
 // The refusals of an event, in the order of document 01's table; 0 is none.
+ghost use mathlib.Core.Bool.{not};
 ghost use mathlib.Core.Path.{_≡_};
-ghost use Rattle.registers.specs.Refusals.{_then_};
-ghost use Rattle.engine.specs.Step.{entryFor, eventRefusal};
+ghost use Rattle.registers.specs.Refusals.{refuse, _then_};
+ghost use Rattle.display.specs.Display.{pixelsFit};
+ghost use lib.ListN.{length};
+ghost use Rattle.engine.specs.Step.{entryFor, eventRefusal, pixelRefusal};
 use registers::Chip;
 
 // 1: a lent memory of another length; 2: a record that is not allowed.
@@ -25,13 +28,43 @@ fn of_event(event: u16, count: u64) -> u8
     if count == 18446744073709551615 { 4 } else { 0 }
 }
 
-// All four in their order.
-pub fn of_step(event: u16, chip: Chip, count: u64, memory_len: usize, writers_len: usize) -> u8
-    ensures { λ r. ⌜ r ≡ entryFor chip «memory_len» «writers_len» then eventRefusal event count ⌝ }
+// 16: a count of pixels would be below 0 or above that of all pixels after this display byte.
+fn of_display_byte(byte: u8, chip: Chip, memory: &[u8]) -> u8
+    ensures { λ r. ⌜ r ≡ refuse (not (pixelsFit (chip .registers) (chip .pixels) (now (memory .entry)) byte)) 16 ⌝ }
 {
-    let entry = at_entry(chip, memory_len, writers_len);
-    if entry != 0 {
-        return entry;
+    if display::pixels_fit(chip.registers, chip.pixels, memory, byte) {
+        0
+    } else {
+        16
     }
-    of_event(event, count)
+}
+
+// No other event is refused by 16.
+pub fn of_pixels(event: u16, chip: Chip, memory: &[u8]) -> u8
+    ensures { λ r. ⌜ r ≡ pixelRefusal event chip (now (memory .entry)) ⌝ }
+{
+    if 256 <= event {
+        return 0;
+    }
+    let phase = chip.phase;
+    if !phase.rs() {
+        return 0;
+    }
+    of_display_byte(event as u8, chip, memory)
+}
+
+// All five in their order.
+pub fn of_step(event: u16, chip: Chip, count: u64, memory: &[u8], writers_len: usize) -> u8
+    ensures { λ r. ⌜ r ≡ entryFor chip (length (now (memory .entry))) «writers_len» then eventRefusal event count
+        then pixelRefusal event chip (now (memory .entry)) ⌝ }
+{
+    let of_entry = at_entry(chip, memory.len(), writers_len);
+    if of_entry != 0 {
+        return of_entry;
+    }
+    let of_event = of_event(event, count);
+    if of_event != 0 {
+        return of_event;
+    }
+    of_pixels(event, chip, memory)
 }

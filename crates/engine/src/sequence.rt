@@ -42,13 +42,7 @@ fn go_through(
     let mut out_of_range = 0;
     while done < events.len() {
         let event = events[done];
-        let refused = crate::refusal::of_step(
-            event,
-            now_chip,
-            now_count,
-            memory.len(),
-            writers.len(),
-        );
+        let refused = crate::refusal::of_step(event, now_chip, now_count, memory, writers.len());
         if refused != 0 {
             return Performed {
                 done,

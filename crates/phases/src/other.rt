@@ -43,11 +43,11 @@ pub fn phase_after_last_read(phase: Phase) -> Phase
     }
 }
 
-// Reset values but for the pins; the lent memories and the count are not touched.
+// Reset values but for the pins and the pixels by value; the lent memories and the count are not touched.
 pub fn pulsed(chip: Chip) -> Chip
     ensures { λ r. ⌜ r ≡ pulsed chip ⌝ }
 {
-    Chip::reset(chip.pins)
+    Chip::reset(chip.pins).with_pixels(chip.pixels)
 }
 
 // A reading is taken where SM = 1 and PD = 0.

@@ -1,21 +1,22 @@
 -- What is promised of the counts, in one place: read this file first. The work stands in the files beside it.
 use mathlib.Core.Bool.{Bool, true, false, cond, _&&_}
 use mathlib.Core.List.{List}
-use mathlib.Core.Logic.{_↔_}
+use mathlib.Core.Logic.{_↔_, _⊎_, inl, inr}
 use mathlib.Core.Path.{_≡_, refl, sym, ap, _∙_, subst}
 use Prim.Native.Nat.{ℕ, zero, suc, _+_, _*_, _-_, _≤_, _<_}
 use native.Mathlib.Nat.{zero-div}
 use native.Mathlib.Omega.{arith}
-use borrow.Author.Tests.{leb-true, le-leb, eq-eqb}
+use borrow.Author.Tests.{leb-true, leb-false, le-leb, eq-eqb}
 use lib.Dec.{leb, eqb}
 use lib.ListN.{getD, length, set, replicate}
 use Rattle.registers.specs.declared.PixelCounts.{PixelCounts}
 use Rattle.registers.specs.Record.{pixels, counts, countFor, byValue, cleared, countLimits, allowedCounts}
 use Rattle.registers.specs.State.{places}
+use Rattle.registers.proofs.Below.{true-false}
 use Rattle.registers.proofs.Within.{both-left, both-right, count-bound}
 use Rattle.glass.specs.Pixel.{valueIn}
 use Rattle.pixel_counts.specs.Counts.{ofValue, inRow, inRows, countOf, countsOf, counted, countingStart}
-use Rattle.pixel_counts.specs.Mending.{shown, fits, moved, fitsFor, movedFor, mendable, mended}
+use Rattle.pixel_counts.specs.Mending.{shown, fits, moved, fitsFor, movedFor, mendable, mended, StaysIn, GoesOut}
 use Rattle.pixel_counts.proofs.Places.{set-moves}
 use Rattle.pixel_counts.proofs.Sums as Sums
 
@@ -57,6 +58,21 @@ so-fits n left joined t = (
   leb-true (n + joined) (pixels + left) (both-right (leb left (n + joined)) _ t),
 )
 
+fits-not : (n left joined : ℕ) → fits n left joined ≡ false → (n + joined < left) ⊎ (pixels + left < n + joined)
+fits-not n left joined f = go (leb left (n + joined)) (leb (n + joined) (pixels + left)) refl refl f
+  where
+    go :
+        (a b : Bool) → leb left (n + joined) ≡ a → leb (n + joined) (pixels + left) ≡ b → a && b ≡ false
+        → (n + joined < left) ⊎ (pixels + left < n + joined)
+    go false b ea eb q = inl (leb-false left (n + joined) ea)
+    go true false ea eb q = inr (leb-false (n + joined) (pixels + left) eb)
+    go true true ea eb q = absurd (true-false q)
+
+not-both :
+    (n left joined : ℕ) → left ≤ n + joined → n + joined ≤ pixels + left → (n + joined < left) ⊎ (pixels + left < n + joined) → ⊥
+not-both n left joined low high (inl h) = omega arith
+not-both n left joined low high (inr h) = omega arith
+
 moves-by : (n left joined : ℕ) → fits n left joined ≡ true → moved n left joined + left ≡ n + joined
 moves-by n left joined t = let so = so-fits n left joined t in rw t (omega (arith, so .0))
 
@@ -69,10 +85,12 @@ moved-low n left joined h = go (fits n left joined) refl
 
 -- ---- counts of any kind, true or not, where byte `new` takes the place of byte `old`
 
--- of value v, as many leave as the old byte showed, and as many join as the new one shows: the count after that is a number from 0 to all pixels
-pub record FitsFor (n : PixelCounts) (place old new v : ℕ) : Type 0 where
-  pub not-below : shown v place old ≤ countFor n v + shown v place new
-  pub not-above : countFor n v + shown v place new ≤ pixels + shown v place old
+opened :
+    (n : PixelCounts) (place old new : ℕ) → mendable n place old new
+    ≡ fitsFor 0 (countFor n 0) place old new && fitsFor 1 (countFor n 1) place old new
+    && fitsFor 2 (countFor n 2) place old new && fitsFor 3 (countFor n 3) place old new
+unfolding mendable
+opened n place old new = refl
 
 module _ (n : PixelCounts) (place old new : ℕ) where
   abbrev fit : ℕ → Bool
@@ -91,16 +109,47 @@ module _ (n : PixelCounts) (place old new : ℕ) where
   all-fit h = simp (h 0 (omega arith), h 1 (omega arith), h 2 (omega arith), h 3 (omega arith))
 
   -- they can be mended exactly if that is so of every value
-  pub mendable-exactly : (mendable n place old new ≡ true) ↔ ((v : ℕ) → v < 4 → FitsFor n place old new v)
+  pub mendable-exactly : (mendable n place old new ≡ true) ↔ ((v : ℕ) → v < 4 → StaysIn n place old new v)
   mendable-exactly = (there, back)
     where
-      there : mendable n place old new ≡ true → (v : ℕ) → v < 4 → FitsFor n place old new v
+      there : mendable n place old new ≡ true → (v : ℕ) → v < 4 → StaysIn n place old new v
       there t v h =
           let so = so-fits (countFor n v) (shown v place old) (shown v place new) (each-fits t v h) in
           record { not-below = so .0; not-above = so .1 }
 
-      back : ((v : ℕ) → v < 4 → FitsFor n place old new v) → mendable n place old new ≡ true
+      back : ((v : ℕ) → v < 4 → StaysIn n place old new v) → mendable n place old new ≡ true
       back f = all-fit (λ v h. let so = f v h in fits-so _ _ _ (so .not-below) (so .not-above))
+
+  -- and can't be exactly if it is not so of some value
+  pub unmendable-exactly : (mendable n place old new ≡ false) ↔ GoesOut n place old new
+  unmendable-exactly = (there, back)
+    where
+      -- the first value that does not fit
+      which : (v : ℕ) → v < 4 → fit v ≡ false → GoesOut n place old new
+      which v h f = record { value = v; is-value = h; out = fits-not (countFor n v) (shown v place old) (shown v place new) f }
+
+      among :
+          (a b c d : Bool) → fit 0 ≡ a → fit 1 ≡ b → fit 2 ≡ c → fit 3 ≡ d → a && b && c && d ≡ false → GoesOut n place old new
+      among false b c d ea eb ec ed f = which 0 (omega arith) ea
+      among true false c d ea eb ec ed f = which 1 (omega arith) eb
+      among true true false d ea eb ec ed f = which 2 (omega arith) ec
+      among true true true false ea eb ec ed f = which 3 (omega arith) ed
+      among true true true true ea eb ec ed f = absurd (true-false f)
+
+      open-up : mendable n place old new ≡ fit 0 && fit 1 && fit 2 && fit 3
+      open-up = opened n place old new
+
+      there : mendable n place old new ≡ false → GoesOut n place old new
+      there f = among (fit 0) (fit 1) (fit 2) (fit 3) refl refl refl refl (sym open-up ∙ f)
+
+      back : GoesOut n place old new → mendable n place old new ≡ false
+      back out = go (mendable n place old new) refl
+        where
+          go : (t : Bool) → mendable n place old new ≡ t → t ≡ false
+          go true e =
+              let so = mendable-exactly .0 e (out .value) (out .is-value) in
+              absurd (not-both _ _ _ (so .not-below) (so .not-above) (out .out))
+          go false e = refl
 
   -- of each value the count after, by its own rule
   of-each : (v : ℕ) → v < 4 → countFor (mended n place old new) v ≡ movedFor v (countFor n v) place old new

@@ -1,12 +1,14 @@
 -- How many pixels of the glass have each value (document 02, W8), counted one by one over its 67 rows and 101 columns.
 use mathlib.Core.Bool.{cond}
 use mathlib.Core.List.{List}
+use mathlib.Core.Path.{_≡_}
 use Prim.Native.Nat.{ℕ, zero, suc, _+_, _%_}
 use lib.Dec.{eqb}
 use lib.ListN.{getD, length}
 use Rattle.registers.specs.declared.PixelCounts.{PixelCounts}
 use Rattle.registers.specs.Record.{byValue}
 use Rattle.registers.specs.Refusals.{lengthRefusal}
+use Rattle.registers.specs.State.{State}
 use Rattle.glass.specs.Pixel.{placeAt, valueIn}
 use Rattle.pixel_counts.specs.declared.Counted.{Counted}
 
@@ -33,6 +35,10 @@ countOf v m = inRows v m 67
 -- of all four values: the true counts of a display memory
 unfoldable pub countsOf : List ℕ → PixelCounts
 countsOf m = byValue (λ v. countOf v m)
+
+-- the chip's counts are those of its memory
+abbrev pub TrueCounts : State → Type 0
+TrueCounts s = s .chip .pixels ≡ countsOf (s .memory)
 
 -- ---- a counting start, from display memory alone
 

@@ -1,6 +1,7 @@
 -- The counts mended where one byte takes the place of another (document 02, W8): the pixels of the old byte leave, those of the new one join.
 use mathlib.Core.Bool.{Bool, cond, _&&_}
-use Prim.Native.Nat.{ℕ, zero, suc, _+_, _-_}
+use mathlib.Core.Logic.{_⊎_}
+use Prim.Native.Nat.{ℕ, zero, suc, _+_, _-_, _≤_, _<_}
 use lib.Dec.{leb, ltb}
 use Rattle.registers.specs.declared.PixelCounts.{PixelCounts}
 use Rattle.registers.specs.Record.{pixels, countFor, byValue}
@@ -49,3 +50,17 @@ mendable n place old new =
 
 unfoldable pub mended : PixelCounts → ℕ → ℕ → ℕ → PixelCounts
 mended n place old new = byValue (λ v. movedFor v (countFor n v) place old new)
+
+-- ---- the same in words
+
+-- the count of value v would be a number from 0 to all pixels
+pub record StaysIn (n : PixelCounts) (place old new v : ℕ) : Type 0 where
+  pub not-below : shown v place old ≤ countFor n v + shown v place new
+  pub not-above : countFor n v + shown v place new ≤ pixels + shown v place old
+
+-- that of some value would be below 0 or above all pixels
+pub record GoesOut (n : PixelCounts) (place old new : ℕ) : Type 0 where
+  pub value : ℕ
+  pub is-value : value < 4
+  pub out :
+      (countFor n value + shown value place new < shown value place old) ⊎ (pixels + shown value place old < countFor n value + shown value place new)

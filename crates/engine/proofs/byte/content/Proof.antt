@@ -6,11 +6,17 @@ use Rattle.engine.proofs.byte.content.Tie as tie
 in-phase-requires : tie.Need-in-phase-requires
 in-phase-requires c κs = search needs
 
+pixels-after-requires : tie.Need-pixels-after-requires
+pixels-after-requires c κs = search needs
+
 display-byte-requires : tie.Need-display-byte-requires
 display-byte-requires c κs = search needs
 
 with-registers-requires : tie.Need-with-registers-requires
 with-registers-requires c κs = search needs
+
+with-pixels-requires : tie.Need-with-pixels-requires
+with-pixels-requires c κs = search needs
 
 same-length : tie.Need-same-length
 same-length c = search needs
@@ -20,9 +26,12 @@ same-length-2 c = search needs
 
 returns : tie.Need-returns
 returns c =
-    let stored = c .before .before .before .before .before .display-byte .ensures in
-    display-content _ _ _ _ _ _ _ _ _ (c .before .before .before .before .before .before .before .before .if1 .taken)
-    (c .before .before .before .before .before .before .before .before .before .in-phase .ensures) (stored .0) (stored .1 .0) (stored .1 .1) (c .with-registers .ensures)
+    let stored = c .before .before .before .before .before .before in
+    let pixels = stored .before .before .before in
+    let test = pixels .before .before in
+    display-content _ _ _ _ _ _ _ _ _ _ _ (test .if1 .taken) (test .before .in-phase .ensures) (pixels .pixels-after .ensures)
+    (stored .display-byte .ensures .0) (stored .display-byte .ensures .1 .0) (stored .display-byte .ensures .1 .1)
+    (c .before .with-registers .ensures) (c .with-pixels .ensures)
 
 command-requires : tie.Need-command-requires
 command-requires c κs = search needs
@@ -31,8 +40,7 @@ with-registers-requires-2 : tie.Need-with-registers-requires-2
 with-registers-requires-2 c κs = search needs
 
 returns-2 : tie.Need-returns-2
-returns-2 c =
-    let commanded = c .before in
+returns-2 c = let commanded = c .before in
     command-content _ _ _ _ _ _ _ _ (commanded .before .if1 .left) (commanded .before .before .in-phase .ensures) (commanded .command .ensures .0)
     (commanded .command .ensures .1) (c .with-registers2 .ensures)
 
@@ -41,8 +49,10 @@ content-spec =
     tie.close
     (tie.spec
     in-phase-requires
+    pixels-after-requires
     display-byte-requires
     with-registers-requires
+    with-pixels-requires
     same-length
     same-length-2
     returns

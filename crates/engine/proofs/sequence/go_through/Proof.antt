@@ -49,8 +49,8 @@ same-length-2 c = search needs
 returns : tie.Need-returns Inv-loop μ-loop
 unfolding refusalOf entryRefusal
 returns c =
-    let inside = c .before .before .before .loop-test .taken in
-    let at-head = c .before .before .before .before .loop .inv in
+    let inside = c .before .before .before .before .loop-test .taken in
+    let at-head = c .before .before .before .before .before .loop .inv in
     let refused = c .before .of-step .ensures in (
       sym (run-stops _ _ inside _ _ refused (c .if1 .taken)) ∙ at-head .3,
       (
@@ -64,8 +64,7 @@ returns c =
 
 add-now-count : tie.Need-add-now-count Inv-loop μ-loop
 unfolding refusalOf entryRefusal
-add-now-count c =
-    let here = c .before .before .before .before .loop in
+add-now-count c = let here = c .before .before .before .before .before .loop in
     let before = state (here .now-chip) (here .memory) (here .writers) (here .now-count) in
     omega (arith, accepts _ before (sym (c .before .of-step .ensures) ∙ c .if1 .left) .room)
 
@@ -74,39 +73,38 @@ apply-requires c κs = search needs
 
 add-done : tie.Need-add-done Inv-loop μ-loop
 add-done c =
-    let inside = c .before .before .before .before .before .before .before .before in
-    omega (arith, inside .before .before .before .before .before .before .before .before .good .1)
+    let test = c .before .before .before .before .before .before .before .before .before .before .before .before in
+    omega (arith, test .loop-test .taken, test .before .before .before .before .before .good .1)
 
 counts-as-requires : tie.Need-counts-as-requires Inv-loop μ-loop
 counts-as-requires c κs = search needs
 
 add-unknown : tie.Need-add-unknown Inv-loop μ-loop
 add-unknown c =
-    let loop = c .before .before .before .before .before .before .before .before .before .before .before .before .before in
-    let inside = c .before .before .before .before .before .before .before .before .before .before .before .before .loop-test .taken in
-    let once = counted-once Unknown _ (c .before .before .before .before .before .before .apply .result .answer) (c .counts-as .ensures) in
-    omega (arith, loop .loop .inv .5 .at-most, inside, once, loop .before .before .before .before .good .1)
+    let applied = c .before .before .before .before .before .before in
+    let test = applied .before .before .before .before .before .before .before in
+    let once = counted-once Unknown _ (applied .apply .result .answer) (c .counts-as .ensures) in
+    omega (arith, test .before .loop .inv .5 .at-most, test .loop-test .taken, once, test .before .before .before .before .before .good .1)
 
 counts-as-requires-2 : tie.Need-counts-as-requires-2 Inv-loop μ-loop
 counts-as-requires-2 c κs = search needs
 
 add-out-of-range : tie.Need-add-out-of-range Inv-loop μ-loop
 add-out-of-range c =
-    let loop = c .before .before .before .before .before .before .before .before .before .before .before .before .before .before in
-    let inside = c .before .before .before .before .before .before .before .before .before .before .before .before .before .loop-test .taken in
-    let once = counted-once OutOfRange _ (c .before .before .before .before .before .before .before .apply .result .answer) (c .counts-as2 .ensures) in
-    omega (arith, loop .loop .inv .6 .at-most, inside, once, loop .before .before .before .before .good .1)
+    let applied = c .before .before .before .before .before .before .before in
+    let test = applied .before .before .before .before .before .before .before in
+    let once = counted-once OutOfRange _ (applied .apply .result .answer) (c .counts-as2 .ensures) in
+    omega (arith, test .before .loop .inv .6 .at-most, test .loop-test .taken, once, test .before .before .before .before .before .good .1)
 
 loop-less : tie.Need-loop-less Inv-loop μ-loop
 loop-less c = search needs
 
 loop-again : tie.Need-loop-again Inv-loop μ-loop
 unfolding refusalOf entryRefusal accepted
-loop-again c =
-    let unknown = c .before in
+loop-again c = let unknown = c .before in
     let applied = unknown .before .before .before .before .before .before in
     let none = applied .before .before .before in
-    let test = none .before .before .before in
+    let test = none .before .before .before .before in
     let here = test .before .loop in
     let at-head = here .inv in
     let inside = test .loop-test .taken in
@@ -128,8 +126,7 @@ same-length-4 : tie.Need-same-length-4 Inv-loop μ-loop
 same-length-4 c = search needs
 
 returns-2 : tie.Need-returns-2 Inv-loop μ-loop
-returns-2 c =
-    let at-head = c .before .loop .inv in
+returns-2 c = let at-head = c .before .loop .inv in
     let ended : c .before .loop .done ≡ length (c .before .before .before .before .before .args .events .now) = omega arith in (
       sym (run-ends _ _ _ ended) ∙ at-head .3,
       (
