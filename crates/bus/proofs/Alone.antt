@@ -13,12 +13,14 @@ use Rattle.engine.specs.Event.{eventOf}
 use Rattle.engine.specs.Step.{After, nothingStored, applied, accepted, refusalOf, stepOf}
 use Rattle.chip.specs.LastWriter.{before}
 use Rattle.chip.specs.Plays.{played}
+use Rattle.chip.specs.When.{none}
 use Rattle.chip.proofs.LastWriter.{counts-accepted}
 use Rattle.chip.proofs.Refusals.{accepted-step, when-so}
-use Rattle.bus.specs.Bus.{Device, Bus, At, alone, deviceOf}
+use Rattle.bus.specs.Bus.{Device, Bus, At, alone, deviceOf, AllTrue}
 use Rattle.bus.specs.Refusals.{BusFit}
 use Rattle.bus.specs.Step.{misses, heardBy, deviceAfter, BusAfter, busAccepted, unlessRefused, busStepOf}
 use Rattle.bus.specs.Streams.{Sent, refusalAt, stepped, busPlayed, acceptedOf, unlessRefusal, heardAs, heardOf, deviceWith, isOn, deviceAt, chipOn}
+use Rattle.bus.proofs.Counts.{all-true-after}
 use Rattle.bus.proofs.Fits.{fits-alone, stays-fit}
 use Rattle.bus.proofs.Phases.{device-pins}
 use Rattle.bus.proofs.Picks.{Picks, still-on, OnBus, by-pins, with-pins, HasPlace, by-place}
@@ -41,7 +43,13 @@ module _ (x : Sent) (b : Bus) (h : refusalAt x b ≡ 0) (i : ℕ) (d : Device) (
   takes-read : refusalOf 258 now ≡ 0
   takes-read =
       let fit = fits-alone (b .count) (b .devices) (accepted-bus-fit (x .event) (x .pins) b h) i d at in
-      when-so 258 now 0 (fit, inl (omega arith), bus-accepts (x .event) (x .pins) b h .room)
+      when-so 258 now 0
+      (none (record {
+        fit = fit;
+        listed = inl (omega arith);
+        room = bus-accepts (x .event) (x .pins) b h .room;
+        counts-stay-in = λ comes. absurd (omega (arith, comes .is-byte));
+      }))
 
   takes-event : refusalOf (x .event) now ≡ 0
   takes-event = accepted-alone (x .event) (x .pins) b h i d at
@@ -238,3 +246,16 @@ stepped-fit x b fit = go (refusalAt x b)
 pub played-fit : (xs : List Sent) (b : Bus) → BusFit (b .devices) → BusFit (busPlayed xs b .devices)
 played-fit [] b fit = fit
 played-fit (x ∷ xs) b fit = played-fit xs (stepped x b) (stepped-fit x b fit)
+
+-- and so do true counts
+pub stepped-true : (x : Sent) (b : Bus) → BusFit (b .devices) → AllTrue (b .devices) → AllTrue (stepped x b .devices)
+unfolding busStepOf busAccepted
+stepped-true x b fit t = go (refusalAt x b)
+  where
+    go : (r : ℕ) → AllTrue (unlessRefused r (busAccepted (x .event) (x .pins) b) b .bus .devices)
+    go zero = all-true-after (x .event) (x .pins) (b .count + 1) (b .devices) (fit .long) (fit .allowed) t
+    go (suc r) = t
+
+pub played-true : (xs : List Sent) (b : Bus) → BusFit (b .devices) → AllTrue (b .devices) → AllTrue (busPlayed xs b .devices)
+played-true [] b fit t = t
+played-true (x ∷ xs) b fit t = played-true xs (stepped x b) (stepped-fit x b fit) (stepped-true x b fit t)

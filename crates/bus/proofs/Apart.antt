@@ -15,11 +15,13 @@ use Rattle.engine.specs.Step.{After, onByte, applied}
 use Rattle.engine.proofs.Events.{byte-event}
 use Rattle.bus.specs.Apart.{Turn, turnAfter, turnAt, Alike, AllAlike, SameBut}
 use Rattle.bus.specs.Apart.Alike.{same, data-bytes}
-use Rattle.bus.specs.Bus.{Device, Bus, alone, deviceOf}
+use Rattle.registers.specs.Refusals.{_then_}
+use Rattle.bus.specs.Bus.{Device, Bus, alone, deviceOf, AllTrue}
 use Rattle.bus.specs.Refusals.{devicesRefusal, sentRefusal, busRefusal, BusFit}
 use Rattle.bus.specs.Step.{misses, deviceAfter}
 use Rattle.bus.specs.Streams.{Sent, refusalAt, stepped, busPlayed, deviceWith, isOn, deviceAt}
-use Rattle.bus.proofs.Alone.{counts-stepped, refused-stepped, stays-on, pins-stay, pick-after, pins-after, stepped-fit, on-after, as-many-after}
+use Rattle.bus.proofs.Alone.{counts-stepped, refused-stepped, stays-on, pins-stay, pick-after, pins-after, stepped-fit, stepped-true, on-after, as-many-after}
+use Rattle.bus.proofs.Counts.{all-take}
 use Rattle.bus.proofs.Phases.{not-missed, device-phase}
 use Rattle.bus.proofs.Picks.{Picks, OnBus, by-pins, with-pins, with-none, HasPlace, by-place}
 use Rattle.bus.proofs.Refusals.{bus-accepts}
@@ -27,10 +29,16 @@ use Rattle.bus.proofs.Turns.{Hears, hears-on, refused-turn, bytes-refus
 
 -- ---- refusals
 
--- on a bus that 1, 2 and 12 let pass, the event alone decides whether it is refused
-fit-refusal : (x : Sent) (b : Bus) → BusFit (b .devices) → refusalAt x b ≡ sentRefusal (x .event) (x .pins) (b .count)
+-- on a bus that 1, 2 and 12 let pass, with true counts of pixels, the event alone decides whether it is refused
+fit-refusal : (x : Sent) (b : Bus) → BusFit (b .devices) → AllTrue (b .devices) → refusalAt x b ≡ sentRefusal (x .event) (x .pins) (b .count)
 unfolding busRefusal devicesRefusal
-fit-refusal x b fit = rw (fit .long, fit .allowed, fit .pins-differ, fit .phases-agree)
+fit-refusal x b fit t =
+    rw (fit .long, fit .allowed, fit .pins-differ, fit .phases-agree, all-take (x .event) (b .devices) (fit .long) (fit .allowed) t)
+    (then-none (sentRefusal (x .event) (x .pins) (b .count)))
+  where
+    then-none : (n : ℕ) → n then 0 ≡ n
+    then-none zero = refl
+    then-none (suc n) = refl
 
 alike-sent : (t : Turn) (x y : Sent) (n : ℕ) → Alike t x y → sentRefusal (x .event) (x .pins) n ≡ sentRefusal (y .event) (y .pins) n
 alike-sent t x y n (same e) = ap (λ (z : Sent). sentRefusal (z .event) (z .pins) n) e
@@ -40,21 +48,25 @@ alike-sent t x y n (data-bytes td hx hy) = bytes-refused (x .event) (y .event) (
 record Level (a b : Bus) : Type 0 where
   fit-first : BusFit (a .devices)
   fit-second : BusFit (b .devices)
+  true-first : AllTrue (a .devices)
+  true-second : AllTrue (b .devices)
   same-count : a .count ≡ b .count
 
 module _ (t : Turn) (x y : Sent) (a b : Bus) (level : Level a b) (alike : Alike t x y) where
   alike-refused : refusalAt x a ≡ refusalAt y b
   alike-refused =
-      fit-refusal x a (level .fit-first)
+      fit-refusal x a (level .fit-first) (level .true-first)
       ∙ alike-sent t x y (a .count) alike
       ∙ ap (sentRefusal (y .event) (y .pins)) (level .same-count)
-      ∙ sym (fit-refusal y b (level .fit-second))
+      ∙ sym (fit-refusal y b (level .fit-second) (level .true-second))
 
   still-level : Level (stepped x a) (stepped y b)
   still-level =
       record {
         fit-first = stepped-fit x a (level .fit-first);
         fit-second = stepped-fit y b (level .fit-second);
+        true-first = stepped-true x a (level .fit-first) (level .true-first);
+        true-second = stepped-true y b (level .fit-second) (level .true-second);
         same-count = go (refusalAt x a) refl;
       }
     where
@@ -152,7 +164,7 @@ module _ (p : ℕ) (On : List Device → Type 0) (pick : List Device → Device)
           subst (λ (c : Bus). Stands next (c .count) (pick (c .devices) .chip .phase)) (sym (refused-stepped x a r h)) (go (beside .stands) turn)
         where
           turn : (next ≡ t) ⊎ (a .count ≡ 2 ^ 64 - 1)
-          turn = refused-turn (x .event) (x .pins) (a .count) r p t (sym (fit-refusal x a (beside .level .fit-first)) ∙ h)
+          turn = refused-turn (x .event) (x .pins) (a .count) r p t (sym (fit-refusal x a (beside .level .fit-first) (beside .level .true-first)) ∙ h)
 
           go :
               Stands t (a .count) (pick (a .devices) .chip .phase) → (next ≡ t) ⊎ (a .count ≡ 2 ^ 64 - 1)
@@ -190,12 +202,12 @@ module _ (p : ℕ) (On : List Device → Type 0) (pick : List Device → Device)
 
   -- on one bus
   same-pick :
-      (xs ys : List Sent) (b : Bus) → BusFit (b .devices) → On (b .devices) → (pick (b .devices) .chip .pins ≡ p → ⊥)
+      (xs ys : List Sent) (b : Bus) → BusFit (b .devices) → AllTrue (b .devices) → On (b .devices) → (pick (b .devices) .chip .pins ≡ p → ⊥)
       → AllAlike p (turnAt p (b .devices)) xs ys → pick (busPlayed xs b .devices) ≡ pick (busPlayed ys b .devices)
-  same-pick xs ys b fit on apart alike =
+  same-pick xs ys b fit t on apart alike =
       same-way (turnAt p (b .devices)) xs ys b b alike
       (record {
-        level = record { fit-first = fit; fit-second = fit; same-count = refl };
+        level = record { fit-first = fit; fit-second = fit; true-first = t; true-second = t; same-count = refl };
         on-first = on;
         on-second = on;
         same-device = refl;
@@ -205,22 +217,22 @@ module _ (p : ℕ) (On : List Device → Type 0) (pick : List Device → Device)
 
 -- ---- the bus
 
--- on every bus that 1, 2 and 12 let pass, for two streams that differ at most in data bytes sent to the write address of p: the counts are the
--- same, and so are the devices with other pins, whole, by pins and by place. So is their glass, which registers and memory give
+-- on every bus that 1, 2 and 12 let pass, with true counts of pixels, for two streams that differ at most in data bytes sent to the write address of
+-- p: the counts are the same, and so are the devices with other pins, whole, by pins and by place. So is their glass, which registers and memory give
 pub non-interference :
-    (p : ℕ) (xs ys : List Sent) (b : Bus) → BusFit (b .devices) → AllAlike p (turnAt p (b .devices)) xs ys → SameBut p (busPlayed xs b) (busPlayed ys b)
-non-interference p xs ys b fit alike =
+    (p : ℕ) (xs ys : List Sent) (b : Bus) → BusFit (b .devices) → AllTrue (b .devices) → AllAlike p (turnAt p (b .devices)) xs ys → SameBut p (busPlayed xs b) (busPlayed ys b)
+non-interference p xs ys b fit t alike =
     record {
-      count = same-counts p (turnAt p (b .devices)) xs ys b b alike (record { fit-first = fit; fit-second = fit; same-count = refl });
+      count = same-counts p (turnAt p (b .devices)) xs ys b b alike (record { fit-first = fit; fit-second = fit; true-first = t; true-second = t; same-count = refl });
       by-pins = λ q apart. with-these q apart (isOn q (b .devices)) refl;
       as-many = as-many-after xs b ∙ sym (as-many-after ys b);
       by-place = at-this;
     }
   where
     with-these :
-        (q : ℕ) → (q ≡ p → ⊥) → (t : Bool) → isOn q (b .devices) ≡ t → deviceWith q (busPlayed xs b .devices) ≡ deviceWith q (busPlayed ys b .devices)
+        (q : ℕ) → (q ≡ p → ⊥) → (there : Bool) → isOn q (b .devices) ≡ there → deviceWith q (busPlayed xs b .devices) ≡ deviceWith q (busPlayed ys b .devices)
     with-these q apart true on =
-        same-pick p (OnBus q) (deviceWith q) (by-pins q) xs ys b fit on (λ e. apart (sym (with-pins q (b .devices) on) ∙ e)) alike
+        same-pick p (OnBus q) (deviceWith q) (by-pins q) xs ys b fit t on (λ e. apart (sym (with-pins q (b .devices) on) ∙ e)) alike
     with-these q apart false off =
         with-none q (busPlayed xs b .devices) (on-after q xs b ∙ off) ∙ sym (with-none q (busPlayed ys b .devices) (on-after q ys b ∙ off))
 
@@ -229,5 +241,5 @@ non-interference p xs ys b fit alike =
         → deviceAt i (busPlayed xs b .devices) ≡ deviceAt i (busPlayed ys b .devices)
     at-this i l apart =
         let on : i < length (b .devices) = subst (λ (n : ℕ). i < n) (as-many-after xs b) l in
-        same-pick p (HasPlace i) (deviceAt i) (by-place i) xs ys b fit on
+        same-pick p (HasPlace i) (deviceAt i) (by-place i) xs ys b fit t on
         (λ e. apart (pins-after (HasPlace i) (deviceAt i) (by-place i) xs b on ∙ e)) alike

@@ -19,23 +19,30 @@ use Rattle.chip.specs.Plays.{writeAddress}
 use Rattle.bus.specs.Apart.{Turn, turnAfter, turnOf, turnAt, AllAlike, SameBytes, bytesSent, writtenTo, SameBut}
 use Rattle.bus.specs.Apart.Alike.{same, data-bytes}
 use Rattle.bus.specs.Apart.Turn.{address, data-byte, other}
-use Rattle.bus.specs.Bus.{Device, Bus, isIgnoringPhase}
+use Rattle.bus.specs.Bus.{Device, Bus, AllTrue, isIgnoringPhase}
 use Rattle.bus.specs.Refusals.{BusFit}
 use Rattle.bus.specs.Streams.{Sent, sent, refusalAt, stepped, busPlayed, deviceWith, isOn}
 use Rattle.bus.specs.When.When.{none}
-use Rattle.bus.proofs.Alone.{counts-stepped, pick-after, stays-on, stepped-fit}
+use Rattle.bus.proofs.Alone.{counts-stepped, pick-after, stays-on, stepped-fit, stepped-true}
+use Rattle.bus.proofs.Counts.{all-take}
 use Rattle.bus.proofs.Fits.{fits-alone}
 use Rattle.bus.proofs.Phases.{phaseAfter, phaseAfterByte, device-phase}
 use Rattle.bus.proofs.Picks.{OnBus, by-pins, with-pins}
-use Rattle.bus.proofs.Refusals.{exactly-when, sound-fit}
+use Rattle.bus.proofs.Refusals.{exactly-when, sound-fit, all-stay-in}
 
 -- ---- the phase of one device
 
--- an event that is no sensor reading, on a bus that 1, 2 and 12 let pass, with room in the count
-taken : (e : ℕ) (b : Bus) → BusFit (b .devices) → e ≤ 260 → b .count + 1 < 2 ^ 64 → refusalAt (sent e 0) b ≡ 0
-taken e b fit low room =
+-- an event that is no sensor reading, on a bus that 1, 2 and 12 let pass, with true counts of pixels and room in the count
+taken : (e : ℕ) (b : Bus) → BusFit (b .devices) → AllTrue (b .devices) → e ≤ 260 → b .count + 1 < 2 ^ 64 → refusalAt (sent e 0) b ≡ 0
+taken e b fit t low room =
     exactly-when e 0 b 0 .1
-    (none (record { sound = sound-fit (b .devices) .0 fit; listed = inl low; named = λ l h. absurd (omega arith); room = λ q. omega arith }))
+    (none (record {
+      sound = sound-fit (b .devices) .0 fit;
+      listed = inl low;
+      named = λ l h. absurd (omega arith);
+      room = λ q. omega arith;
+      counts-stay-in = all-stay-in e (b .count) (b .devices) .0 (all-take e (b .devices) (fit .long) (fit .allowed) t);
+    }))
 
 phase-after :
     (x : Sent) (b : Bus) (q : ℕ) → isOn q (b .devices) ≡ true → refusalAt x b ≡ 0
@@ -65,7 +72,7 @@ not-addressed p q apart = simp (ne-eqb (writeAddress p / 2) (60 + q) (λ e. apar
 abbrev pub opening : ℕ → List Sent
 opening p = sent 256 0 ∷ sent (writeAddress p) 0 ∷ []
 
-module _ (b : Bus) (fit : BusFit (b .devices)) (room : b .count + 3 < 2 ^ 64) (p q : ℕ)
+module _ (b : Bus) (fit : BusFit (b .devices)) (t : AllTrue (b .devices)) (room : b .count + 3 < 2 ^ 64) (p q : ℕ)
     (on-p : isOn p (b .devices) ≡ true) (on-q : isOn q (b .devices) ≡ true)
   where
     abbrev started : Bus
@@ -75,10 +82,13 @@ module _ (b : Bus) (fit : BusFit (b .devices)) (room : b .count + 3 < 2 ^ 64) (p
     opened = busPlayed (opening p) b
 
     start-taken : refusalAt (sent 256 0) b ≡ 0
-    start-taken = taken 256 b fit (omega arith) (omega arith)
+    start-taken = taken 256 b fit t (omega arith) (omega arith)
 
     started-fit : BusFit (started .devices)
     started-fit = stepped-fit (sent 256 0) b fit
+
+    started-true : AllTrue (started .devices)
+    started-true = stepped-true (sent 256 0) b fit t
 
     on-started : isOn q (started .devices) ≡ true
     on-started = stays-on (OnBus q) (deviceWith q) (by-pins q) (sent 256 0) b on-q
@@ -87,7 +97,7 @@ module _ (b : Bus) (fit : BusFit (b .devices)) (room : b .count + 3 < 2 ^ 64) (p
     count-started = counts-stepped (sent 256 0) b start-taken
 
     address-taken : refusalAt (sent (writeAddress p) 0) started ≡ 0
-    address-taken = let low = low-pins b p fit on-p in taken (writeAddress p) started started-fit (omega arith) (omega (arith, count-started))
+    address-taken = let low = low-pins b p fit on-p in taken (writeAddress p) started started-fit started-true (omega arith) (omega (arith, count-started))
 
     count-opened : opened .count ≡ b .count + 2
     count-opened = counts-stepped (sent (writeAddress p) 0) started address-taken ∙ omega (arith, count-started)
@@ -102,18 +112,20 @@ module _ (b : Bus) (fit : BusFit (b .devices)) (room : b .count + 3 < 2 ^ 64) (p
 
     -- and a control byte after them
     control-taken : (e : ℕ) → e ≤ 255 → refusalAt (sent e 0) opened ≡ 0
-    control-taken e low = taken e opened (stepped-fit (sent (writeAddress p) 0) started started-fit) (omega arith) (omega (arith, count-opened))
+    control-taken e low =
+        taken e opened (stepped-fit (sent (writeAddress p) 0) started started-fit) (stepped-true (sent (writeAddress p) 0) started started-fit started-true)
+        (omega arith) (omega (arith, count-opened))
 
     on-opened : isOn q (opened .devices) ≡ true
     on-opened = stays-on (OnBus q) (deviceWith q) (by-pins q) (sent (writeAddress p) 0) started on-started
 
 -- an address byte is no data: change it, and the chip that it names or names no more does not come out the same
 pub address-is-no-data :
-    (b : Bus) → BusFit (b .devices) → b .count + 3 < 2 ^ 64 → (p q : ℕ) → (q ≡ p → ⊥) → isOn p (b .devices) ≡ true → isOn q (b .devices) ≡ true
+    (b : Bus) → BusFit (b .devices) → AllTrue (b .devices) → b .count + 3 < 2 ^ 64 → (p q : ℕ) → (q ≡ p → ⊥) → isOn p (b .devices) ≡ true → isOn q (b .devices) ≡ true
     → SameBut p (busPlayed (opening p) b) (busPlayed (opening q) b) → ⊥
-address-is-no-data b fit room p q apart on-p on-q s =
-    let first = after-opening b fit room p q on-p on-q ∙ not-addressed p q apart in
-    let second = after-opening b fit room q q on-q on-q ∙ addressed q in
+address-is-no-data b fit t room p q apart on-p on-q s =
+    let first = after-opening b fit t room p q on-p on-q ∙ not-addressed p q apart in
+    let second = after-opening b fit t room q q on-q on-q ∙ addressed q in
     false-true (sym (ap isIgnoringPhase (sym first ∙ ap (λ (d : Device). d .chip .phase) (s .by-pins q apart) ∙ second)))
 
 -- ---- a control byte after them
@@ -160,17 +172,17 @@ mid-message p b = go (deviceWith p (b .devices) .chip .phase)
 
 -- streams that are alike do lead the chip apart that they speak to: 80h announces one command byte, 40h display bytes
 pub data-lead-apart :
-    (b : Bus) → BusFit (b .devices) → b .count + 3 < 2 ^ 64 → (p : ℕ) → isOn p (b .devices) ≡ true
+    (b : Bus) → BusFit (b .devices) → AllTrue (b .devices) → b .count + 3 < 2 ^ 64 → (p : ℕ) → isOn p (b .devices) ≡ true
     → AllAlike p (turnAt p (b .devices)) (speaking p 128) (speaking p 64)
     × (deviceWith p (busPlayed (speaking p 128) b .devices) ≡ deviceWith p (busPlayed (speaking p 64) b .devices) → ⊥)
-data-lead-apart b fit room p on = (speaking-alike p (turnAt p (b .devices)) 128 64 (low-pins b p fit on) (omega arith) (omega arith), differ)
+data-lead-apart b fit t room p on = (speaking-alike p (turnAt p (b .devices)) 128 64 (low-pins b p fit on) (omega arith) (omega arith), differ)
   where
     awaiting : deviceWith p (busPlayed (opening p) b .devices) .chip .phase ≡ ControlAwaited
-    awaiting = after-opening b fit room p p on on ∙ addressed p
+    awaiting = after-opening b fit t room p p on on ∙ addressed p
 
     controlled : (e : ℕ) → e ≤ 255 → deviceWith p (busPlayed (speaking p e) b .devices) .chip .phase ≡ phaseAfterControl e
     controlled e low =
-        phase-after (sent e 0) (busPlayed (opening p) b) p (on-opened b fit room p p on on) (control-taken b fit room p p on on e low)
+        phase-after (sent e 0) (busPlayed (opening p) b) p (on-opened b fit t room p p on on) (control-taken b fit t room p p on on e low)
         ∙ ap (λ (v : Event). phaseAfter v p (deviceWith p (busPlayed (opening p) b .devices) .chip .phase)) (byte-event e (omega arith))
         ∙ ap (phaseAfterByte e p) awaiting
 

@@ -5,9 +5,9 @@ use mathlib.Core.Logic.{_⊎_, inl, inr}
 use mathlib.Core.Path.{_≡_, refl, sym, ap, _∙_}
 use Prim.Native.Nat.{ℕ, zero, suc, _+_, _≤_}
 use native.Mathlib.Omega.{arith}
-use Rattle.registers.proofs.Below.{false-true}
+use Rattle.registers.proofs.Below.{false-true, true-false}
 use Rattle.registers.proofs.Within.{both-left, both-right}
-use Rattle.bus.specs.Bus.{Device, At, every, howMany}
+use Rattle.bus.specs.Bus.{Device, At, Somewhere, every, howMany}
 
 -- ---- tests
 
@@ -47,6 +47,17 @@ every-at f (x ∷ ds) t (suc i) d a = every-at f ds (both-right (f x) (every f d
 pub at-every : (f : Device → Bool) (ds : List Device) → ((i : ℕ) (d : Device) → At i d ds → f d ≡ true) → every f ds ≡ true
 at-every f [] h = refl
 at-every f (x ∷ ds) h = joined (f x) (every f ds) (h 0 x refl) (at-every f ds (λ i. h (suc i)))
+
+-- some device does not pass
+pub some-not : (f : Device → Bool) (ds : List Device) → every f ds ≡ false → Somewhere (λ (d : Device). f d ≡ false) ds
+some-not f [] t = absurd (true-false t)
+some-not f (x ∷ ds) t = go (f x) refl t (some-not f ds)
+  where
+    go :
+        (a : Bool) → f x ≡ a → a && every f ds ≡ false → (every f ds ≡ false → Somewhere (λ (d : Device). f d ≡ false) ds)
+        → Somewhere (λ (d : Device). f d ≡ false) (x ∷ ds)
+    go true q t rest = let later = rest t in record { place = suc (later .place); which = later .which; stands = later .stands; so = later .so }
+    go false q t rest = record { place = 0; which = x; stands = refl; so = q }
 
 pub at-map : (h : Device → Device) (ds : List Device) (i : ℕ) (d : Device) → At i d ds → At i (h d) (map h ds)
 at-map h [] i d a = absurd a

@@ -16,11 +16,13 @@ use Rattle.engine.specs.Event.{isAcknowledged}
 use Rattle.engine.specs.Step.{After, stepOf}
 use Rattle.chip.specs.When.{ListedEvent}
 use Rattle.bus.specs.Answers.{Acknowledges, AwaitsCommand, IsRead}
-use Rattle.bus.specs.Bus.{Device, Bus, bus, freshDevices, At, Somewhere, alone, deviceOf, isPast}
+use Rattle.bus.specs.Bus.{Device, Bus, bus, AllTrue, freshDevices, At, Somewhere, alone, deviceOf, isPast}
 use Rattle.bus.specs.Reach.{withChip, nowIn, pulsedDevice, sensedAt, KeptButPhase, HasPins}
 use Rattle.bus.specs.Refusals.{isSensorReading, busRefusal}
 use Rattle.bus.specs.Step.{busAfter, misses, deviceAfter, busStepOf}
 use Rattle.bus.specs.When.{Sound, PinsNamed, When}
+use Rattle.bus.specs.Streams.{sent}
+use Rattle.bus.proofs.Alone.{stepped-true}
 use Rattle.bus.proofs.Answers as Answers
 use Rattle.bus.proofs.Fits as Fits
 use Rattle.bus.proofs.Reach as Reach
@@ -30,7 +32,7 @@ use Rattle.bus.proofs.Speaking as Speaking
 module _ (e k : ℕ) (b : Bus) where
   -- ---- refusals
 
-  -- each number comes exactly when the table says, 1, 2, 12, 3, 13 and 4 in this order, and no other
+  -- each number comes exactly when the table says, 1, 2, 12, 3, 13, 4 and 16 in this order, and no other
   pub exactly-when : (r : ℕ) → (busRefusal e k b ≡ r) ↔ When e k b r
   exactly-when = Refusals.exactly-when e k b
 
@@ -51,6 +53,13 @@ module _ (e k : ℕ) (b : Bus) where
           let fit = Fits.stays-fit e k (b .count + 1) (b .devices) (Refusals.sound-fit (b .devices) .1 sound) in
           rw (Reach.devices-after e k b h) (Refusals.sound-fit (map (deviceAfter e k (b .count + 1)) (b .devices)) .0 fit)
       go (suc r) h = rw (Refusals.refused-changes-nothing e k b r h) sound
+
+  -- true counts of pixels stay true after every event, and are never a reason for 16
+  pub stays-true : Sound (b .devices) → AllTrue (b .devices) → AllTrue (busStepOf e k b .bus .devices)
+  stays-true sound t = stepped-true (sent e k) b (Refusals.sound-fit (b .devices) .1 sound) t
+
+  pub true-never-16 : AllTrue (b .devices) → busRefusal e k b ≡ 16 → ⊥
+  true-never-16 = Refusals.true-never-16 e k b
 
   -- the number added is ignored but for sensor readings
   pub added-number : (j : ℕ) → isSensorReading e ≡ false → busStepOf e k b ≡ busStepOf e j b

@@ -1,6 +1,7 @@
 pub mod Alone
 pub mod Answers
 pub mod Apart
+pub mod Counts
 pub mod Differing
 pub mod Every
 pub mod Fits

@@ -10,17 +10,19 @@ use native.Mathlib.Omega.{arith}
 use lib.Dec.{eqb}
 use lib.ListN.{getD, length}
 use Rattle.registers.specs.declared.Phase.{Phase}
-use Rattle.registers.specs.declared.Phase.the-variants.{Ignoring}
+use Rattle.registers.specs.declared.Phase.the-variants.{Idle, AddressAwaited, Ignoring, ControlAwaited, OneByte, EndlessBytes, Reading, ReadEnded}
 use Rattle.registers.specs.State.{State}
 use Rattle.registers.proofs.Below.{false-true}
 use Rattle.engine.specs.Event.{isAcknowledged}
 use Rattle.engine.specs.Step.{After, onByte, applied, counted, stepOf}
 use Rattle.engine.proofs.Refusals.{accepts}
 use Rattle.chip.specs.LastWriter.{before}
+use Rattle.chip.specs.Phases.{awaitsData}
 use Rattle.chip.specs.Plays.{Good, played}
+use Rattle.chip.specs.When.{CountsStayIn}
 use Rattle.chip.proofs.Events.{by-phase, command-at}
-use Rattle.chip.proofs.Refusals.{is-listed-event}
-use Rattle.bus.specs.Bus.{Device, Bus, At, isPast}
+use Rattle.chip.proofs.Refusals.{is-listed-event, accepted-when}
+use Rattle.bus.specs.Bus.{Device, Bus, At, alone, isPastPhase, isPast}
 use Rattle.bus.specs.Plays.{GoodOnBus, OthersKept, PlaysOnBus}
 use Rattle.bus.specs.Reach.{nowIn, KeptButPhase}
 use Rattle.bus.specs.Refusals.{BusFit}
@@ -46,6 +48,17 @@ unfolding heardBy applied
 at-ends e k n d (inl q) = rw q
 at-ends e k n d (inr q) = rw q
 
+-- display data comes to a chip that is past its address
+data-past : (q : Phase) → awaitsData q ≡ true → isPastPhase q ≡ true
+data-past Idle t = absurd (false-true t)
+data-past AddressAwaited t = absurd (false-true t)
+data-past Ignoring t = absurd (false-true t)
+data-past ControlAwaited t = absurd (false-true t)
+data-past (OneByte rs) t = refl
+data-past (EndlessBytes rs) t = refl
+data-past Reading t = absurd (false-true t)
+data-past ReadEnded t = absurd (false-true t)
+
 -- ---- one event
 
 module _ (p : ℕ) (x : Sent) (b : Bus) (fit : BusFit (b .devices)) (on : isOn p (b .devices) ≡ true)
@@ -57,6 +70,37 @@ module _ (p : ℕ) (x : Sent) (b : Bus) (fit : BusFit (b .devices)) (on : isOn p
     stands : (i : ℕ) × At i mine (b .devices)
     stands = by-pins p .stands (b .devices) on
 
+    byte-step : x .event < 256 → stepOf (x .event) (chipOn p b) ≡ onByte (mine .chip .phase) (x .event) (counted (chipOn p b))
+    byte-step byte = by-phase (chipOn p b) (x .event) byte (good .not-refused)
+
+    -- a chip that ignores the rest acknowledges nothing
+    unheard : mine .chip .phase ≡ Ignoring → isAcknowledged (onByte (mine .chip .phase) (x .event) (counted (chipOn p b)) .answer) ≡ false
+    unfolding isAcknowledged
+    unheard e = ap (λ (q : Phase). isAcknowledged (onByte q (x .event) (counted (chipOn p b)) .answer)) e
+
+    -- where this one acknowledges a byte, no other is past its address
+    none-past : x .event < 256 → (j : ℕ) (d : Device) → At j d (b .devices) → (j ≡ stands .0 → ⊥) → isPast d ≡ false
+    none-past byte j d at apart = go (isPast d) refl
+      where
+        go : (t : Bool) → isPast d ≡ t → t ≡ false
+        go false q = refl
+        go true q =
+            let sound = sound-fit (b .devices) .0 fit in
+            let ignoring = others-ignoring (b .devices) sound j d at q (stands .0) mine (stands .1) (λ e. apart (sym e)) in
+            let said = ap (λ (a : After). isAcknowledged (a .answer)) (byte-step byte) in
+            absurd (false-true (sym (unheard ignoring) ∙ sym said ∙ good .acknowledged byte))
+
+    -- so that no other awaits display data, and only this one's counts of pixels can move
+    stay-in : (j : ℕ) (d : Device) → At j d (b .devices) → CountsStayIn (x .event) (alone (b .count) d)
+    stay-in j d at = go (ℕ-discrete j (stands .0))
+      where
+        go : Dec (j ≡ stands .0) → CountsStayIn (x .event) (alone (b .count) d)
+        go (yes e) =
+            let same = at-same (b .devices) (stands .0) d mine (subst (λ (n : ℕ). At n d (b .devices)) e at) (stands .1) in
+            subst (λ (y : Device). CountsStayIn (x .event) (alone (b .count) y)) (sym same)
+            (accepted-when (x .event) (chipOn p b) (good .not-refused) .counts-stay-in)
+        go (no n) = λ comes. absurd (false-true (sym (none-past (comes .is-byte) j d at n) ∙ data-past (d .chip .phase) (comes .is-data)))
+
     accepted : refusalAt x b ≡ 0
     accepted =
         let ok = accepts (x .event) (chipOn p b) (good .not-refused) in
@@ -67,10 +111,8 @@ module _ (p : ℕ) (x : Sent) (b : Bus) (fit : BusFit (b .devices)) (on : isOn p
           listed = is-listed-event (x .event) (ok .listed);
           named = λ l h. absurd (omega arith);
           room = ok .room;
+          counts-stay-in = stay-in;
         }))
-
-    byte-step : x .event < 256 → stepOf (x .event) (chipOn p b) ≡ onByte (mine .chip .phase) (x .event) (counted (chipOn p b))
-    byte-step byte = by-phase (chipOn p b) (x .event) byte (good .not-refused)
 
     good-on-bus : GoodOnBus p x b
     good-on-bus =
@@ -93,11 +135,6 @@ module _ (p : ℕ) (x : Sent) (b : Bus) (fit : BusFit (b .devices)) (on : isOn p
         heard : heardAs p x ≡ x .event
         heard = ap (λ (t : Bool). cond (t && not (eqb p (x .pins))) 258 (x .event)) (no-reading (x .event) (omega arith))
 
-    -- a chip that ignores the rest acknowledges nothing
-    unheard : mine .chip .phase ≡ Ignoring → isAcknowledged (onByte (mine .chip .phase) (x .event) (counted (chipOn p b)) .answer) ≡ false
-    unfolding isAcknowledged
-    unheard e = ap (λ (q : Phase). isAcknowledged (onByte q (x .event) (counted (chipOn p b)) .answer)) e
-
     module _ (q : ℕ) (other : q ≡ p → ⊥) (on-q : isOn q (b .devices) ≡ true) where
       abbrev theirs : Device
       theirs = deviceWith q (b .devices)
@@ -110,23 +147,11 @@ module _ (p : ℕ) (x : Sent) (b : Bus) (fit : BusFit (b .devices)) (on : isOn p
           let same = at-same (b .devices) (stands .0) theirs mine (subst (λ (n : ℕ). At n theirs (b .devices)) e (there .1)) (stands .1) in
           other (sym (with-pins q (b .devices) on-q) ∙ ap (λ (d : Device). d .chip .pins) same ∙ with-pins p (b .devices) on)
 
-      -- where this one acknowledges a byte, no other is past its address
-      not-past : (byte : x .event < 256) → isPast theirs ≡ false
-      not-past byte = go (isPast theirs) refl
-        where
-          go : (t : Bool) → isPast theirs ≡ t → t ≡ false
-          go false q = refl
-          go true q =
-              let sound = sound-fit (b .devices) .0 fit in
-              let ignoring = others-ignoring (b .devices) sound (there .0) theirs (there .1) q (stands .0) mine (stands .1) (λ e. apart (sym e)) in
-              let said = ap (λ (a : After). isAcknowledged (a .answer)) (byte-step byte) in
-              absurd (false-true (sym (unheard ignoring) ∙ sym said ∙ good .acknowledged byte))
-
       -- what the event leaves of a device with other pins
       kept : Dec (x .event < 256) → Dec (x .event ≡ 256) → KeptButPhase theirs (deviceAfter (x .event) (x .pins) (b .count + 1) theirs)
       kept (yes byte) end =
           byte-leaves (x .event) (x .pins) b accepted byte (there .0) theirs _ (there .1)
-          (at-after (x .event) (x .pins) b accepted (there .0) theirs (there .1)) (not-past byte)
+          (at-after (x .event) (x .pins) b accepted (there .0) theirs (there .1)) (none-past byte (there .0) theirs (there .1) apart)
       kept (no n) (yes e) = at-ends (x .event) (x .pins) (b .count + 1) theirs (inl e)
       kept (no n) (no m) = at-ends (x .event) (x .pins) (b .count + 1) theirs (inr (omega arith))
 

@@ -5,14 +5,12 @@ use mathlib.Core.Path.{_≡_, refl, sym, ap, _∙_, subst}
 use Prim.Native.Nat.{ℕ, _+_, _-_, _<_, _≤_}
 use native.Mathlib.Decide.{ℕ-discrete}
 use native.Mathlib.Omega.{arith}
-use borrow.Author.Tests.{eq-eqb, ne-eqb, leb-true}
-use lib.Dec.{eqb, leb}
-use Rattle.registers.specs.declared.Chip.{Chip}
+use borrow.Author.Tests.{eq-eqb, ne-eqb}
+use lib.Dec.{eqb}
 use Rattle.registers.specs.declared.Phase.{Phase}
 use Rattle.registers.specs.declared.Phase.the-variants.{Idle, AddressAwaited, Ignoring, ControlAwaited, OneByte, EndlessBytes, Reading, ReadEnded}
-use Rattle.registers.specs.Record.{allowed, allowedRegisters}
 use Rattle.registers.proofs.Below.{false-true}
-use Rattle.registers.proofs.Within.{both-right}
+use Rattle.registers.proofs.Within.{allowed-pins}
 use Rattle.phases.specs.Changes.{sensed}
 use Rattle.engine.specs.declared.answer.Answer.the-variants.{Nothing}
 use Rattle.engine.specs.declared.event.Event.{Event}
@@ -141,10 +139,6 @@ module _ (e k : ℕ) (b : Bus) (h : busRefusal e k b ≡ 0) (byte : e < 256) whe
 
 -- ---- the pins of four
 
-pins-bound : (c : Chip) → allowed c ≡ true → c .pins ≤ 3
-unfolding allowed
-pins-bound c t = leb-true (c .pins) 3 (both-right (allowedRegisters (c .registers)) (leb (c .pins) 3) t)
-
 abbrev Differ : ℕ → ℕ → Type 0
 Differ x y = x ≡ y → ⊥
 
@@ -182,7 +176,7 @@ four-pins a b c d sound p l =
     none : (a .chip .pins ≡ p → ⊥) → (b .chip .pins ≡ p → ⊥) → (c .chip .pins ≡ p → ⊥) → (d .chip .pins ≡ p → ⊥) → ⊥
     none na nb nc nd =
         let own = sound .sharing .own-pins in
-        let bound : (i : ℕ) (x : Device) → At i x ds → x .chip .pins ≤ 3 = λ i x s. pins-bound (x .chip) (sound .allowed i x s) in
+        let bound : (i : ℕ) (x : Device) → At i x ds → x .chip .pins ≤ 3 = λ i x s. allowed-pins (x .chip) (sound .allowed i x s) in
         five-numbers (a .chip .pins) (b .chip .pins) (c .chip .pins) (d .chip .pins) p
         (bound 0 a refl) (bound 1 b refl) (bound 2 c refl) (bound 3 d refl) l
         (own 0 1 a b (omega arith) refl refl) (own 0 2 a c (omega arith) refl refl) (own 0 3 a d (omega arith) refl refl)

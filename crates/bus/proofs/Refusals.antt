@@ -10,23 +10,27 @@ use lib.Dec.{eqb, leb, ltb}
 use lib.ListN.{length}
 use Rattle.registers.specs.declared.Phase.{Phase}
 use Rattle.registers.specs.declared.Phase.the-variants.{Idle, AddressAwaited, Ignoring, ControlAwaited, OneByte, EndlessBytes, Reading, ReadEnded}
-use Rattle.registers.specs.Record.{allowed, resetChip}
+use Rattle.registers.specs.Record.{allowed, allowedCounts}
 use Rattle.registers.specs.Refusals.{refuse, _then_, isListedEvent}
 use Rattle.registers.specs.State.{places}
 use Rattle.registers.proofs.Below.{false-true, true-false, or-true}
 use Rattle.registers.proofs.Within.{both-left, both-right}
 use Rattle.engine.specs.declared.answer.Answer.the-variants.{Refused}
 use Rattle.engine.specs.Step.{refusalOf}
-use Rattle.chip.specs.When.{ListedEvent}
+use Rattle.pixel_counts.specs.Counts.{countsOf}
+use Rattle.pixel_counts.proofs.Laws.{counts-allowed}
+use Rattle.chip.specs.When as ChipWhen
+use Rattle.chip.specs.When.{ListedEvent, CountsStayIn, CountGoesOut}
 use Rattle.chip.proofs.Refusals as Chip
 use Rattle.chip.proofs.Refusals.{listed-true, listed-false, is-listed-event}
-use Rattle.bus.specs.Bus.{Device, device, Bus, bus, freshDevices, At, alone, every, howMany, isIgnoringPhase, isIdle, awaitsAddress}
+use Rattle.bus.specs.Bus.{Device, Bus, bus, AllTrue, fresh, freshDevices, At, Somewhere, alone, every, howMany, isIgnoringPhase, isIdle, awaitsAddress}
 use Rattle.bus.specs.Bus.{isIgnoring, isPast, hasOtherPins, pinsDiffer, onePast, phasesAgree}
-use Rattle.bus.specs.Refusals.{isLong, isAllowed, canShare, devicesRefusal, isSensorReading, sentRefusal, busRefusal, BusFit}
+use Rattle.bus.specs.Refusals.{isLong, isAllowed, canShare, devicesRefusal, isSensorReading, sentRefusal, countsFit, busRefusal, BusFit}
 use Rattle.bus.specs.Step.{busAfter, busAccepted, busStepOf}
 use Rattle.bus.specs.When.{AllLong, AllAllowed, OwnPins, AllIn, OthersIgnore, Sharing, Sound, PinsNamed, Accepts, When}
-use Rattle.bus.specs.When.{none, not-long, not-allowed, not-sharing, not-listed, no-such-pins, count-full}
-use Rattle.bus.proofs.Every.{joined, either, or-left, or-right, not-so, every-at, at-every, one-place, place-one}
+use Rattle.bus.specs.When.{none, not-long, not-allowed, not-sharing, not-listed, no-such-pins, count-full, goes-out}
+use Rattle.bus.proofs.Every.{joined, either, or-left, or-right, not-so, every-at, at-every, some-not, one-place, place-one}
+use Rattle.bus.proofs.Counts.{all-take, fresh-true}
 use Rattle.bus.proofs.Fits.{fits-alone, idle-is, awaiting-is, isSettled}
 use Rattle.bus.proofs.Phases.{is-reading}
 
@@ -169,6 +173,28 @@ named-pins e k h =
     let low = h (so .0) (omega (arith, so .1)) in
     omega arith)
 
+-- ---- 16
+
+module _ (e n : ℕ) (ds : List Device) where
+  pub all-stay-in : (every (countsFit e) ds ≡ true) ↔ ((i : ℕ) (d : Device) → At i d ds → CountsStayIn e (alone n d))
+  all-stay-in = (
+    λ t i d a. Chip.pixels-passed e (alone n d) (eqb-true _ _ (every-at (countsFit e) ds t i d a)),
+    λ h. at-every (countsFit e) ds (λ i d a. eq-eqb _ _ (Chip.pixels-pass e (alone n d) (h i d a))),
+  )
+
+  some-goes-out : (every (countsFit e) ds ≡ false) ↔ Somewhere (λ (d : Device). CountGoesOut e (alone n d)) ds
+  some-goes-out = (there, back)
+    where
+      there : every (countsFit e) ds ≡ false → Somewhere (λ (d : Device). CountGoesOut e (alone n d)) ds
+      there f =
+          let one = some-not (countsFit e) ds f in
+          record { place = one .place; which = one .which; stands = one .stands; so = Chip.pixels-stopped e (alone n (one .which)) (eqb-false _ _ (one .so)) }
+
+      back : Somewhere (λ (d : Device). CountGoesOut e (alone n d)) ds → every (countsFit e) ds ≡ false
+      back one =
+          not-so (every (countsFit e) ds) (λ t.
+          Chip.pixels-stop e (alone n (one .which)) (one .so) (eqb-true _ _ (every-at (countsFit e) ds t (one .place) (one .which) (one .stands))))
+
 -- ---- exactly when
 
 module _ (e k n : ℕ) (ds : List Device) where
@@ -178,32 +204,36 @@ module _ (e k n : ℕ) (ds : List Device) where
 
   -- the order of the tests, and what each outcome says
   decided :
-      (l a c t s f : Bool) → every isLong ds ≡ l → every isAllowed ds ≡ a → canShare ds ≡ c → isListedEvent e ≡ t
-      → namesNone e k ≡ s → eqb n (2 ^ 64 - 1) ≡ f
-      → When e k (bus ds n) ((refuse (not l) 1 then refuse (not a) 2 then refuse (not c) 12) then refuse (not t) 3 then refuse s 13 then refuse f 4)
-  decided false a c t s f el ea ec et es ef = not-long (λ h. true-false (sym (all-long ds .1 h) ∙ el))
-  decided true false c t s f el ea ec et es ef = not-allowed (all-long ds .0 el) (λ h. true-false (sym (all-allowed ds .1 h) ∙ ea))
-  decided true true false t s f el ea ec et es ef =
+      (l a c t s f u : Bool) → every isLong ds ≡ l → every isAllowed ds ≡ a → canShare ds ≡ c → isListedEvent e ≡ t
+      → namesNone e k ≡ s → eqb n (2 ^ 64 - 1) ≡ f → every (countsFit e) ds ≡ u
+      → When e k (bus ds n)
+      ((refuse (not l) 1 then refuse (not a) 2 then refuse (not c) 12) then (refuse (not t) 3 then refuse s 13 then refuse f 4) then refuse (not u) 16)
+  decided false a c t s f u el ea ec et es ef eu = not-long (λ h. true-false (sym (all-long ds .1 h) ∙ el))
+  decided true false c t s f u el ea ec et es ef eu = not-allowed (all-long ds .0 el) (λ h. true-false (sym (all-allowed ds .1 h) ∙ ea))
+  decided true true false t s f u el ea ec et es ef eu =
       not-sharing (all-long ds .0 el) (all-allowed ds .0 ea) (λ h. true-false (sym (shares ds .1 h) ∙ ec))
-  decided true true true false s f el ea ec et es ef = not-listed (sound-by el ea ec) (λ h. true-false (sym (listed-true e h) ∙ et))
-  decided true true true true true f el ea ec et es ef =
+  decided true true true false s f u el ea ec et es ef eu = not-listed (sound-by el ea ec) (λ h. true-false (sym (listed-true e h) ∙ et))
+  decided true true true true true f u el ea ec et es ef eu =
       let so = is-reading e (both-left (isSensorReading e) (ltb 3 k) es) in
       no-such-pins (sound-by el ea ec) (so .0) (omega (arith, so .1)) (ltb-true 3 k (both-right (isSensorReading e) (ltb 3 k) es))
-  decided true true true true false true el ea ec et es ef =
+  decided true true true true false true u el ea ec et es ef eu =
       count-full (sound-by el ea ec) (is-listed-event e et) (pins-named e k es) (eqb-true n (2 ^ 64 - 1) ef)
-  decided true true true true false false el ea ec et es ef =
+  decided true true true true false false false el ea ec et es ef eu =
+      goes-out (sound-by el ea ec) (eqb-false n (2 ^ 64 - 1) ef) (some-goes-out e n ds .0 eu)
+  decided true true true true false false true el ea ec et es ef eu =
       none (record {
         sound = sound-by el ea ec;
         listed = is-listed-event e et;
         named = pins-named e k es;
         room = eqb-false n (2 ^ 64 - 1) ef;
+        counts-stay-in = all-stay-in e n ds .0 eu;
       })
 
   refusal-when : When e k (bus ds n) (busRefusal e k (bus ds n))
   unfolding busRefusal devicesRefusal sentRefusal
   refusal-when =
       decided (every isLong ds) (every isAllowed ds) (canShare ds) (isListedEvent e) (namesNone e k)
-      (eqb n (2 ^ 64 - 1)) refl refl refl refl refl refl
+      (eqb n (2 ^ 64 - 1)) (every (countsFit e) ds) refl refl refl refl refl refl refl
 
   when-so : (r : ℕ) → When e k (bus ds n) r → busRefusal e k (bus ds n) ≡ r
   unfolding busRefusal devicesRefusal sentRefusal
@@ -215,6 +245,7 @@ module _ (e k n : ℕ) (ds : List Device) where
         listed-true e (h .listed),
         named-pins e k (h .named),
         ne-eqb n (2 ^ 64 - 1) (h .room),
+        all-stay-in e n ds .1 (h .counts-stay-in),
       )
   when-so r (not-long w) = simp (not-so (every isLong ds) (λ t. w (all-long ds .0 t)))
   when-so r (not-allowed l w) = simp (all-long ds .1 l, not-so (every isAllowed ds) (λ t. w (all-allowed ds .0 t)))
@@ -238,6 +269,16 @@ module _ (e k n : ℕ) (ds : List Device) where
         named-pins e k p,
         eq-eqb n (2 ^ 64 - 1) f,
       )
+  when-so r (goes-out h room one) =
+      simp (
+        all-long ds .1 (h .long),
+        all-allowed ds .1 (h .allowed),
+        shares ds .1 (h .sharing),
+        listed-true e (inl (omega (arith, one .so .comes .is-byte))),
+        named-pins e k (λ low high. absurd (omega (arith, one .so .comes .is-byte))),
+        ne-eqb n (2 ^ 64 - 1) room,
+        some-goes-out e n ds .1 one,
+      )
 
 -- each number comes exactly when the table says, and none but these
 pub exactly-when : (e k : ℕ) (b : Bus) (r : ℕ) → (busRefusal e k b ≡ r) ↔ When e k b r
@@ -254,6 +295,15 @@ pins-of-readings e k b t h = go (exactly-when e k b 13 .0 h)
   where
     go : When e k b 13 → ⊥
     go (no-such-pins s low high above) = true-false (sym (is-sensor e low high) ∙ t)
+
+-- 16 never comes where the counts of pixels are true
+pub true-never-16 : (e k : ℕ) (b : Bus) → AllTrue (b .devices) → busRefusal e k b ≡ 16 → ⊥
+true-never-16 e k b t h = go (exactly-when e k b 16 .0 h)
+  where
+    go : When e k b 16 → ⊥
+    go (goes-out sound room one) =
+        let fit = sound-fit (b .devices) .1 sound in
+        true-false (sym (all-take e (b .devices) (fit .long) (fit .allowed) t) ∙ some-goes-out e (b .count) (b .devices) .1 one)
 
 -- ---- an accepted event
 
@@ -276,7 +326,8 @@ module _ (e k : ℕ) (b : Bus) (h : busRefusal e k b ≡ 0) where
   pub accepted-alone : (i : ℕ) (d : Device) → At i d (b .devices) → refusalOf e (alone (b .count) d) ≡ 0
   accepted-alone i d a =
       let fit = fits-alone (b .count) (b .devices) accepted-bus-fit i d a in
-      Chip.when-so e (alone (b .count) d) 0 (fit, bus-accepts .listed, bus-accepts .room)
+      Chip.when-so e (alone (b .count) d) 0
+      (ChipWhen.none (record { fit = fit; listed = bus-accepts .listed; room = bus-accepts .room; counts-stay-in = bus-accepts .counts-stay-in i d a }))
 
 -- ---- four chips after a reset
 
@@ -286,12 +337,13 @@ module _ (memories writers : ℕ → List ℕ) (long : (pins : ℕ) → (length 
   unfolding allowed
   fresh-sound =
       let ds = freshDevices memories writers in
-      let each : (pins : ℕ) → isLong (device (resetChip pins) (memories pins) (writers pins)) ≡ true
+      let each : (pins : ℕ) → isLong (fresh pins (memories pins) (writers pins)) ≡ true
       = λ pins. joined _ _ (eq-eqb _ _ (long pins .0)) (eq-eqb _ _ (long pins .1))
       in
+      let fine : (pins : ℕ) → allowedCounts (countsOf (memories pins)) ≡ true = λ pins. counts-allowed (memories pins) in
       sound-fit ds .0 (record {
         long = rw (each 0, each 1, each 2, each 3);
-        allowed = refl;
+        allowed = rw (fine 0, fine 1, fine 2, fine 3);
         pins-differ = refl;
         phases-agree = refl;
       })
@@ -299,4 +351,11 @@ module _ (memories writers : ℕ → List ℕ) (long : (pins : ℕ) → (length 
   -- and the bus takes every listed event
   pub fresh-accepts : (e k n : ℕ) → ListedEvent e → PinsNamed e k → (n ≡ 2 ^ 64 - 1 → ⊥) → busRefusal e k (bus (freshDevices memories writers) n) ≡ 0
   fresh-accepts e k n listed named room =
-      exactly-when e k (bus (freshDevices memories writers) n) 0 .1 (none (record { sound = fresh-sound; listed = listed; named = named; room = room }))
+      let fits = sound-fit (freshDevices memories writers) .1 fresh-sound in
+      exactly-when e k (bus (freshDevices memories writers) n) 0 .1 (none (record {
+        sound = fresh-sound;
+        listed = listed;
+        named = named;
+        room = room;
+        counts-stay-in = all-stay-in e n (freshDevices memories writers) .0 (all-take e (freshDevices memories writers) (fits .long) (fits .allowed) (fresh-true memories writers));
+      }))

@@ -4,13 +4,13 @@ use mathlib.Core.Bool.{true, false, cond}
 use mathlib.Core.List.{List, [], _∷_, map}
 use mathlib.Core.Logic.{inl, inr}
 use mathlib.Core.Path.{_≡_, refl, ap}
-use Prim.Native.Nat.{ℕ, zero, suc, _+_}
+use Prim.Native.Nat.{ℕ, zero, suc, _+_, _-_, _^_, _≤_}
 use native.Mathlib.Omega.{arith}
 use lib.ListN.{getD}
 use Rattle.registers.specs.declared.Chip.{Chip}
 use Rattle.registers.specs.declared.Phase.{Phase}
 use Rattle.registers.specs.declared.Phase.the-variants.{Idle, AddressAwaited, Ignoring, ControlAwaited, EndlessBytes, Reading}
-use Rattle.registers.specs.Record.{resetRegisters, put, allowed}
+use Rattle.registers.specs.Record.{resetRegisters, put, allowed, cleared}
 use Rattle.registers.proofs.Below.{false-true}
 use Rattle.commands.specs.declared.answer.CommandAnswer.{CommandAnswer}
 use Rattle.commands.specs.declared.answer.CommandAnswer.the-variants.{Taken, Unknown, OutOfRange}
@@ -27,7 +27,7 @@ use Rattle.bus.specs.Bus.{Device, device, Bus, bus, alone, deviceOf, isP
 use Rattle.bus.specs.Reach.{pulsedDevice}
 use Rattle.bus.specs.Refusals.{busRefusal}
 use Rattle.bus.specs.Step.{BusAfter, heardBy, deviceAfter, unanswered, answerOf, busAccepted, busStepOf}
-use Rattle.bus.specs.When.{When, not-sharing, not-listed, no-such-pins, count-full}
+use Rattle.bus.specs.When.{When, not-sharing, not-listed, no-such-pins, count-full, goes-out}
 use Rattle.bus.proofs.Refusals.{shares, exactly-when, refused-changes-nothing, pins-of-readings, bus-accepts}
 use Rattle.bus.proofs.Speaking.{one-past-place}
 
@@ -35,7 +35,7 @@ use Rattle.bus.proofs.Speaking.{one-past-place}
 
 -- a chip with these pins in this phase: status 5, last RS 0, and registers as after a reset but PD 0 and SM 1
 abbrev chipIn : ℕ → Phase → Chip
-chipIn pins p = record { registers = put 2 0 (put 18 1 resetRegisters); pins = pins; status = 5; «last_rs» = false; phase = p }
+chipIn pins p = record { registers = put 2 0 (put 18 1 resetRegisters); pins = pins; status = 5; «last_rs» = false; phase = p; pixels = cleared }
 
 -- of its memories only the first place matters here
 abbrev deviceIn : ℕ → Phase → Device
@@ -229,6 +229,20 @@ four-is-not-before-13 b q = go (exactly-when 512 4 b 4 .0 q)
   where
     go : When 512 4 b 4 → ⊥
     go (count-full sound listed named full) = let l = named (omega arith) (omega arith) in omega arith
+
+-- 16 before 4
+pub sixteen-is-not-before-4 : (e k : ℕ) (b : Bus) → b .count ≡ 2 ^ 64 - 1 → busRefusal e k b ≡ 16 → ⊥
+sixteen-is-not-before-4 e k b full q = go (exactly-when e k b 16 .0 q)
+  where
+    go : When e k b 16 → ⊥
+    go (goes-out sound room one) = room full
+
+-- 16 for an event that is no byte
+pub sixteen-is-for-bytes : (e k : ℕ) (b : Bus) → 256 ≤ e → busRefusal e k b ≡ 16 → ⊥
+sixteen-is-for-bytes e k b high q = go (exactly-when e k b 16 .0 q)
+  where
+    go : When e k b 16 → ⊥
+    go (goes-out sound room one) = omega (arith, one .so .comes .is-byte)
 
 -- 13 for a START, whatever the number added
 pub start-names-no-pins : (k : ℕ) (b : Bus) → busRefusal 256 k b ≡ 13 → ⊥

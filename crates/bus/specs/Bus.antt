@@ -7,8 +7,9 @@ use lib.Dec.{eqb, leb}
 use Rattle.registers.specs.declared.Chip.{Chip}
 use Rattle.registers.specs.declared.Phase.{Phase}
 use Rattle.registers.specs.declared.Phase.the-variants.{Idle, AddressAwaited, Ignoring, ControlAwaited, OneByte, EndlessBytes, Reading, ReadEnded}
-use Rattle.registers.specs.Record.{resetChip}
+use Rattle.registers.specs.Record.{resetChip, withPixels}
 use Rattle.registers.specs.State.{State, state}
+use Rattle.pixel_counts.specs.Counts.{countsOf}
 
 -- a chip's record with its display bytes and writer numbers
 pub record Device : Type 0 where
@@ -34,9 +35,21 @@ alone n d = state (d .chip) (d .memory) (d .writers) n
 abbrev pub deviceOf : State → Device
 deviceOf s = device (s .chip) (s .memory) (s .writers)
 
--- four chips as a reset leaves them, with the pins 0 to 3 and these memories
+-- the device's counts of pixels are those of its memory
+abbrev pub CountsTrue : Device → Type 0
+CountsTrue d = d .chip .pixels ≡ countsOf (d .memory)
+
+abbrev pub AllTrue : List Device → Type 0
+AllTrue [] = Unit
+AllTrue (d ∷ ds) = CountsTrue d × AllTrue ds
+
+-- a chip as a reset and a counting start leave it, with these pins and memories
+abbrev pub fresh : ℕ → List ℕ → List ℕ → Device
+fresh pins m w = device (withPixels (resetChip pins) (countsOf m)) m w
+
+-- four of them, with the pins 0 to 3
 abbrev pub freshDevices : (ℕ → List ℕ) → (ℕ → List ℕ) → List Device
-freshDevices memories writers = map (λ (pins : ℕ). device (resetChip pins) (memories pins) (writers pins)) (0 ∷ 1 ∷ 2 ∷ 3 ∷ [])
+freshDevices memories writers = map (λ (pins : ℕ). fresh pins (memories pins) (writers pins)) (0 ∷ 1 ∷ 2 ∷ 3 ∷ [])
 
 -- ---- a device by its place, all devices, and how many of them
 

@@ -1,4 +1,4 @@
--- The refusals of a bus event in their order: 1, 2 and 12 of the devices, then 3, 13 and 4 of the event; 0 is none.
+-- The refusals of a bus event in their order: 1, 2 and 12 of the devices, then 3, 13 and 4 of the event, then 16 of what it would do; 0 is none.
 use mathlib.Core.Bool.{Bool, true, not, _&&_}
 use mathlib.Core.List.{List}
 use mathlib.Core.Path.{_≡_}
@@ -8,6 +8,7 @@ use lib.ListN.{length}
 use Rattle.registers.specs.Record.{allowed}
 use Rattle.registers.specs.Refusals.{refuse, _then_, isListedEvent}
 use Rattle.registers.specs.State.{places}
+use Rattle.engine.specs.Step.{pixelRefusal}
 use Rattle.bus.specs.Bus.{Device, Bus, every, pinsDiffer, phasesAgree}
 
 abbrev pub isLong : Device → Bool
@@ -35,8 +36,15 @@ isSensorReading e = leb 512 e && leb e 767
 unfoldable pub sentRefusal : ℕ → ℕ → ℕ → ℕ
 sentRefusal e k count = refuse (not (isListedEvent e)) 3 then refuse (isSensorReading e && ltb 3 k) 13 then refuse (eqb count (2 ^ 64 - 1)) 4
 
+-- 16: of some device a count of pixels would leave its range
+abbrev pub countsFit : ℕ → Device → Bool
+countsFit e d = eqb (pixelRefusal e (d .chip) (d .memory)) 0
+
+abbrev pub pixelsRefusalFor : Bool → ℕ
+pixelsRefusalFor fit = refuse (not fit) 16
+
 unfoldable pub busRefusal : ℕ → ℕ → Bus → ℕ
-busRefusal e k b = devicesRefusal (b .devices) then sentRefusal e k (b .count)
+busRefusal e k b = devicesRefusal (b .devices) then sentRefusal e k (b .count) then pixelsRefusalFor (every (countsFit e) (b .devices))
 
 -- what 1, 2 and 12 let pass
 pub record BusFit (ds : List Device) : Type 0 where

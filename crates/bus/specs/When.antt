@@ -1,4 +1,4 @@
--- Exactly when each refusal of a bus event comes (document 02, W6), in its words.
+-- Exactly when each refusal of a bus event comes (document 02, W6 and W8), in its words.
 use mathlib.Core.Bool.{true}
 use mathlib.Core.List.{List}
 use mathlib.Core.Logic.{_⊎_}
@@ -9,8 +9,8 @@ use Rattle.registers.specs.declared.Phase.{Phase}
 use Rattle.registers.specs.declared.Phase.the-variants.{Idle, AddressAwaited, Ignoring}
 use Rattle.registers.specs.Record.{allowed}
 use Rattle.registers.specs.State.{places}
-use Rattle.chip.specs.When.{ListedEvent}
-use Rattle.bus.specs.Bus.{Device, Bus, At, isPast}
+use Rattle.chip.specs.When.{ListedEvent, CountsStayIn, CountGoesOut}
+use Rattle.bus.specs.Bus.{Device, Bus, At, Somewhere, alone, isPast}
 
 -- ---- 1 and 2
 
@@ -57,6 +57,7 @@ pub record Accepts (e k : ℕ) (b : Bus) : Type 0 where
   pub listed : ListedEvent e
   pub named : PinsNamed e k
   pub room : b .count ≡ 2 ^ 64 - 1 → ⊥
+  pub counts-stay-in : (i : ℕ) (d : Device) → At i d (b .devices) → CountsStayIn e (alone (b .count) d)
 
 -- 0 is none; the rest in their order
 pub data When (e k : ℕ) (b : Bus) : ℕ → Type 0 where
@@ -67,3 +68,4 @@ pub data When (e k : ℕ) (b : Bus) : ℕ → Type 0 where
   not-listed : Sound (b .devices) → (ListedEvent e → ⊥) → When e k b 3
   no-such-pins : Sound (b .devices) → 512 ≤ e → e ≤ 767 → 3 < k → When e k b 13
   count-full : Sound (b .devices) → ListedEvent e → PinsNamed e k → b .count ≡ 2 ^ 64 - 1 → When e k b 4
+  goes-out : Sound (b .devices) → (b .count ≡ 2 ^ 64 - 1 → ⊥) → Somewhere (λ (d : Device). CountGoesOut e (alone (b .count) d)) (b .devices) → When e k b 16

@@ -1,4 +1,4 @@
-// The refusals of a bus event, in their order: 1, 2, 12, 3, 13, 4; 0 is none.
+// The refusals of a bus event, in their order: 1, 2, 12, 3, 13, 4, 16; 0 is none.
 ghost use mathlib.Core.Bool.{_&&_};
 ghost use mathlib.Core.Path.{_≡_};
 ghost use Prim.Native.Nat.{_<_};
@@ -7,7 +7,7 @@ ghost use Rattle.registers.specs.Refusals.{_then_};
 ghost use Rattle.registers.specs.State.{places};
 ghost use Rattle.bus.specs.Bus.{every};
 ghost use Rattle.bus_refusals.specs.Four.{recordsOf};
-ghost use Rattle.bus.specs.Refusals.{isAllowed, devicesRefusalFor, isSensorReading, sentRefusal};
+ghost use Rattle.bus.specs.Refusals.{isAllowed, devicesRefusalFor, isSensorReading, sentRefusal, pixelsRefusalFor};
 use registers::Chip;
 
 mod sharing;
@@ -77,12 +77,20 @@ fn first_of(first: u8, later: u8) -> u8
     if first != 0 { first } else { later }
 }
 
-// All six in their order; where there is none, the event can be counted.
-pub fn of_step(event: u16, pins: u64, chips: Chips, count: u64, long: bool) -> u8
-    ensures { λ r. ⌜ r ≡ devicesRefusalFor long (recordsOf chips) then sentRefusal event pins count ⌝ }
+// 16: of some chip a count of pixels would leave its range.
+fn of_pixels(fit: bool) -> u8
+    ensures { λ r. ⌜ r ≡ pixelsRefusalFor fit ⌝ }
+{
+    if fit { 0 } else { 16 }
+}
+
+// All seven in their order; where there is none, the event can be counted. `long` says that all memories have their length, `fit` that all counts of
+// pixels would stay in their range.
+pub fn of_step(event: u16, pins: u64, chips: Chips, count: u64, long: bool, fit: bool) -> u8
+    ensures { λ r. ⌜ r ≡ devicesRefusalFor long (recordsOf chips) then sentRefusal event pins count then pixelsRefusalFor fit ⌝ }
     ensures { λ r. ⌜ (r ≡ 0 → count < 18446744073709551615) ⌝ }
 {
     let of_devices = of_devices(chips, long);
     let of_event = of_event(event, pins, count);
-    first_of(of_devices, of_event)
+    first_of(of_devices, first_of(of_event, of_pixels(fit)))
 }

@@ -10,7 +10,7 @@ use Rattle.engine.specs.declared.answer.Answer.the-variants.{Refused, Nothing}
 use Rattle.engine.specs.Event.{eventOf}
 use Rattle.engine.specs.Step.{After, stepOf}
 use Rattle.bus.specs.Bus.{Device, Bus, bus, At, alone, every, hasOtherPins}
-use Rattle.bus.specs.Refusals.{isLong, devicesRefusalFor, devicesRefusal, isSensorReading, sentRefusal, busRefusal}
+use Rattle.bus.specs.Refusals.{isLong, devicesRefusalFor, devicesRefusal, isSensorReading, sentRefusal, countsFit, pixelsRefusalFor, busRefusal}
 use Rattle.bus.specs.Step.{misses, heardBy, deviceAfter, unanswered, orElse, BusAfter, busAfter, busAccepted, unlessRefused, busStepOf}
 use Rattle.bus.proofs.Answers.{heard-as-alone}
 use Rattle.bus.proofs.Phases as Phases
@@ -70,15 +70,18 @@ unless-refused zero r a b e n = absurd (n e)
 unless-refused (suc x) r a b e n = ap (λ (y : ℕ). busAfter (Refused y) (b .devices) (b .count)) e
 
 module _
-    (e k n r : ℕ) (l0 l1 l2 l3 : Bool) (a b c d : Device)
+    (e k n r : ℕ) (l0 l1 l2 l3 fit : Bool) (a b c d : Device)
     (q0 : l0 ≡ isLong a) (q1 : l1 ≡ isLong b) (q2 : l2 ≡ isLong c) (q3 : l3 ≡ isLong d)
-    (told : r ≡ devicesRefusalFor (l0 && (l1 && (l2 && l3))) (a ∷ b ∷ c ∷ d ∷ []) then sentRefusal e k n)
+    (fits : fit ≡ every (countsFit e) (a ∷ b ∷ c ∷ d ∷ []))
+    (told : r ≡ devicesRefusalFor (l0 && (l1 && (l2 && l3))) (a ∷ b ∷ c ∷ d ∷ []) then sentRefusal e k n then pixelsRefusalFor fit)
   where
     refusal-told : r ≡ busRefusal e k (bus (a ∷ b ∷ c ∷ d ∷ []) n)
     unfolding busRefusal devicesRefusal
     refusal-told =
         let long : l0 && (l1 && (l2 && l3)) ≡ every isLong (a ∷ b ∷ c ∷ d ∷ []) = simp (q0, q1, q2, q3, and-true) in
-        told ∙ ap (λ (t : Bool). devicesRefusalFor t (a ∷ b ∷ c ∷ d ∷ []) then sentRefusal e k n) long
+        told
+        ∙ ap (λ (t : Bool). devicesRefusalFor t (a ∷ b ∷ c ∷ d ∷ []) then sentRefusal e k n then pixelsRefusalFor fit) long
+        ∙ ap (λ (t : Bool). devicesRefusalFor (every isLong (a ∷ b ∷ c ∷ d ∷ [])) (a ∷ b ∷ c ∷ d ∷ []) then sentRefusal e k n then pixelsRefusalFor t) fits
 
     pub step-refused : (r ≡ 0 → ⊥) → busAfter (Refused r) (a ∷ b ∷ c ∷ d ∷ []) n ≡ busStepOf e k (bus (a ∷ b ∷ c ∷ d ∷ []) n)
     unfolding busStepOf

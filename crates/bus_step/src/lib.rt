@@ -1,7 +1,8 @@
 // Four chips on one bus: an event reaches them all, and one count numbers the events.
 ghost use mathlib.Core.Path.{_≡_};
-ghost use mathlib.Core.List.{map};
-ghost use Rattle.bus.specs.Bus.{bus};
+ghost use mathlib.Core.List.{[], map};
+ghost use Rattle.bus.specs.Bus.{bus, every};
+ghost use Rattle.bus.specs.Refusals.{countsFit};
 ghost use Rattle.bus.specs.Step.{busAfter, busStepOf};
 ghost use Rattle.bus_refusals.specs.Four.{four};
 ghost use Rattle.bus_step.specs.Part.{deviceBy, answerBy};
@@ -70,6 +71,24 @@ fn deliver(
     }
 }
 
+// All four do.
+fn all_fit(
+    event: u16,
+    chips: Chips,
+    memory0: &[u8],
+    memory1: &[u8],
+    memory2: &[u8],
+    memory3: &[u8],
+) -> bool
+    ensures { λ r. ⌜ r ≡ every (countsFit event)
+        (four chips (now (memory0 .entry)) [] (now (memory1 .entry)) [] (now (memory2 .entry)) [] (now (memory3 .entry)) []) ⌝ }
+{
+    device::counts_fit(event, chips.chip0, memory0)
+        & (device::counts_fit(event, chips.chip1, memory1)
+            & (device::counts_fit(event, chips.chip2, memory2)
+                & device::counts_fit(event, chips.chip3, memory3)))
+}
+
 // One event: refused with the same records, memories and count, or accepted. The pins are those that a sensor reading names.
 pub fn step(
     event: u16,
@@ -93,7 +112,8 @@ pub fn step(
     let long = is_long(memory0.len(), writers0.len())
         & (is_long(memory1.len(), writers1.len())
             & (is_long(memory2.len(), writers2.len()) & is_long(memory3.len(), writers3.len())));
-    let refused = bus_refusals::of_step(event, pins, chips, count, long);
+    let fit = all_fit(event, chips, memory0, memory1, memory2, memory3);
+    let refused = bus_refusals::of_step(event, pins, chips, count, long, fit);
     if refused != 0 {
         return BusStepped {
             answer: Answer::Refused(refused),

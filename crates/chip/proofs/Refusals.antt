@@ -13,6 +13,7 @@ use Rattle.registers.specs.Record.{allowed, phaseRs}
 use Rattle.registers.specs.Refusals.{refuse, _then_, isListedEvent}
 use Rattle.registers.specs.State.{State, places}
 use Rattle.registers.proofs.Below.{or-true, true-false, false-true}
+use Rattle.registers.proofs.Refusals.{refuse-none}
 use Rattle.registers.proofs.Within.{both-left, both-right}
 use Rattle.pixel_counts.proofs.Laws.{mendable-exactly, unmendable-exactly}
 use Rattle.display.specs.Display.{pixelsFit}
@@ -106,6 +107,28 @@ module _ (e : ℕ) (s : State) where
   unfolding pixelsFit
   false-stay-in f comes =
       mendable-exactly _ _ _ _ .0 (not-false _ (ap (λ (t : Bool). t && not (fitsAt e s)) (sym (data-comes comes)) ∙ f))
+
+-- 16 or none
+module _ (e : ℕ) (s : State) where
+  pub pixels-pass : CountsStayIn e s → pixelRefusal e (s .chip) (s .memory) ≡ 0
+  unfolding pixelRefusal
+  pixels-pass stay = simp (stay-in-false e s stay)
+
+  pub pixels-passed : pixelRefusal e (s .chip) (s .memory) ≡ 0 → CountsStayIn e s
+  unfolding pixelRefusal
+  pixels-passed h = false-stay-in e s (refuse-none (isUnmendable e s) 15 h)
+
+  pub pixels-stop : CountGoesOut e s → pixelRefusal e (s .chip) (s .memory) ≡ 0 → ⊥
+  unfolding pixelRefusal
+  pixels-stop out h = true-false (sym (goes-out-true e s out) ∙ refuse-none (isUnmendable e s) 15 h)
+
+  pub pixels-stopped : (pixelRefusal e (s .chip) (s .memory) ≡ 0 → ⊥) → CountGoesOut e s
+  unfolding pixelRefusal
+  pixels-stopped n = go (isUnmendable e s) refl
+    where
+      go : (t : Bool) → isUnmendable e s ≡ t → CountGoesOut e s
+      go true q = true-goes-out e s q
+      go false q = absurd (n (ap (λ (t : Bool). refuse t 16) q))
 
 -- ---- exactly when
 

@@ -12,16 +12,29 @@ of-devices-requires c κs = search needs
 of-event-requires : tie.Need-of-event-requires
 of-event-requires c κs = search needs
 
+of-pixels-requires : tie.Need-of-pixels-requires
+of-pixels-requires c κs = search needs
+
 first-of-requires : tie.Need-first-of-requires
 first-of-requires c κs = search needs
 
+first-of-requires-2 : tie.Need-first-of-requires-2
+first-of-requires-2 c κs = search needs
+
 returns : tie.Need-returns
 returns c =
-    let devices = c .before .before .of-devices in
-    let sent = c .before .of-event in (
-      then-told _ (devices .result) (sent .result) _ _ (c .first-of .ensures) (devices .ensures) (sent .ensures),
-      λ z. omega (arith, room _ _ _ (sym (sent .ensures) ∙ then-zero (devices .result) _ (sym (c .first-of .ensures) ∙ z) .1)),
+    let later = c .before .first-of in
+    let pixels = c .before .before .of-pixels in
+    let sent = c .before .before .before .of-event in
+    let devices = c .before .before .before .before .of-devices in
+    let rest = then-told _ (sent .result) (pixels .result) _ _ (later .ensures) (sent .ensures) (pixels .ensures) in (
+      then-told _ (devices .result) (later .result) _ _ (c .first-of2 .ensures) (devices .ensures) rest,
+      λ z.
+          let none = then-zero (devices .result) _ (sym (c .first-of2 .ensures) ∙ z) .1 in
+          omega (arith, room _ _ _ (sym (sent .ensures) ∙ then-zero (sent .result) _ (sym (later .ensures) ∙ none) .0)),
     )
 
 pub of-step-spec : {M : Type 1} → statement M
-of-step-spec = tie.close (tie.spec of-devices-requires of-event-requires first-of-requires returns)
+of-step-spec =
+    tie.close
+    (tie.spec of-devices-requires of-event-requires of-pixels-requires first-of-requires first-of-requires-2 returns)
