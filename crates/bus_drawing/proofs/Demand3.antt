@@ -9,7 +9,7 @@ use lib.Seq.{sets, sets-eq, take-append-seam}
 use Rattle.registers.specs.declared.Chip.{Chip}
 use Rattle.registers.specs.Record.{allowed, blank}
 use Rattle.registers.proofs.Within.{allowed-registers, allowed-pins}
-use Rattle.chip.specs.Promised.{Fit}
+use Rattle.chip.specs.Promised.{Fit, TrueCounts}
 use Rattle.lists.specs.declared.Line.{Line}
 use Rattle.lists.specs.Lists.{lines, readingOf}
 use Rattle.lists.proofs.Readings.{reading-accepted}
@@ -54,7 +54,7 @@ module _ (c : Chip) (text : List ℕ) (ls : List Line) (reads : readingOf text �
       stream-low (c .pins) ls (blank (c .registers)) (allowed-pins c ok) (lines-fit text ls reads) (blank-tracked (c .registers) (allowed-registers c ok))
 
   module _ (b : Bus) (fit : BusFit (b .devices)) (on : isOn (c .pins) (b .devices) ≡ true) (is : deviceWith (c .pins) (b .devices) .chip ≡ c)
-      (room : b .count + length events < 2 ^ 64)
+      (t : TrueCounts (chipOn (c .pins) b)) (room : b .count + length events < 2 ^ 64)
     where
       fits : Fit (chipOn (c .pins) b)
       fits =
@@ -64,7 +64,7 @@ module _ (c : Chip) (text : List ℕ) (ls : List Line) (reads : readingOf text �
       alone-draws : Demand3 ls events (chipOn (c .pins) b)
       alone-draws =
           subst (λ (x : Chip). Demand3 ls (stream (x .pins) ls (blank (x .registers))) (chipOn (c .pins) b)) is
-          (text-demand-3 text ls reads (chipOn (c .pins) b) fits
+          (text-demand-3 text ls reads (chipOn (c .pins) b) fits t
           (subst (λ (x : Chip). b .count + length (stream (x .pins) ls (blank (x .registers))) < 2 ^ 64) (sym is) room))
 
       drawn : (xs : List Sent) → eventsOf xs ≡ events → DrawnOnBus ls xs (c .pins) b
@@ -76,6 +76,7 @@ module _ (c : Chip) (text : List ℕ) (ls : List Line) (reads : readingOf text �
             same-picture = ap pictureOf (plays .same-chip) ∙ draws .same-picture;
             others-kept = plays .others-kept;
             count-after = plays .count-after;
+            true-counts = subst TrueCounts (sym (plays .same-chip)) (draws .true-counts);
           }
 
 -- demand 3 on a bus: where the answer is a length, the output's first n events draw the text
@@ -97,7 +98,7 @@ demand-3-on-bus c text out n k done = go (exactly-when c text out (Done n k) .0 
         record {
           list = streams .list;
           reads = streams .reads;
-          plays = λ b fit on is more xs e.
-              drawn c text (streams .list) (streams .reads) (ok .allowed-record) b fit on is
+          plays = λ b fit on is t more xs e.
+              drawn c text (streams .list) (streams .reads) (ok .allowed-record) b fit on is t
               (subst (λ (m : ℕ). b .count + m < 2 ^ 64) (count ∙ ap length (streams .events)) more) xs (e ∙ first);
         }

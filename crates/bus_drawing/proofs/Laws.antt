@@ -14,7 +14,7 @@ use Rattle.glass.specs.Glass.{glassOf, glassRefusal, placeRefusal}
 use Rattle.compiler.specs.declared.answer.Compiled.the-variants.{Done}
 use Rattle.compiler.specs.Compile.{compileOf}
 use Rattle.bus.specs.Apart.{Turn, turnAt, AllAlike, SameBytes, bytesSent, writtenTo, SameBut}
-use Rattle.bus.specs.Bus.{Device, Bus, alone}
+use Rattle.bus.specs.Bus.{Device, Bus, alone, AllTrue}
 use Rattle.bus.specs.LastWriter.{PlaceOnBus}
 use Rattle.bus.specs.Reach.{KeptButPhase}
 use Rattle.bus.specs.Refusals.{BusFit}
@@ -60,7 +60,10 @@ own-way-at = Alone.own-way-at
 pub count-after : (xs : List Sent) (b : Bus) → busPlayed xs b .count ≡ b .count + length (acceptedOf xs b)
 count-after = Alone.count-after
 
--- chips that pass still do after any stream
+-- chips that pass still do after any stream, and their counts of pixels, where they are true, are so then
+pub still-true : (xs : List Sent) (b : Bus) → BusFit (b .devices) → AllTrue (b .devices) → AllTrue (busPlayed xs b .devices)
+still-true = Alone.played-true
+
 pub still-passes : (xs : List Sent) (b : Bus) → BusFit (b .devices) → BusFit (busPlayed xs b .devices)
 still-passes = Alone.played-fit
 
@@ -71,14 +74,15 @@ still-passes = Alone.played-fit
 pub demand-2 : (p : ℕ) (xs : List Sent) (b : Bus) → isOn p (b .devices) ≡ true → (k : ℕ) → PlaceOnBus p xs b k
 demand-2 = last-writer-on-bus
 
--- demand 3, for each chip by its pins: what was compiled for its record draws the list on it, on every bus that 1, 2 and 12 let pass, and leaves
--- the other chips as they were but for the phase
+-- demand 3, for each chip by its pins: what was compiled for its record draws the list on it, on every bus that 1, 2 and 12 let pass, from true counts
+-- of its pixels, and leaves the other chips as they were but for the phase
 pub demand-3 : (c : Chip) (text out : List ℕ) (n k : ℕ) → compileOf c text out .answer ≡ Done n k → DrawsOnBus c text n (compileOf c text out .out)
 demand-3 = demand-3-on-bus
 
--- non-interference: where two streams differ only in bytes of data for one chip, the other chips come out the same
+-- non-interference: where two streams differ only in bytes of data for one chip, the other chips come out the same, from true counts of pixels, which
+-- `still-true` gives after either stream
 pub others-the-same :
-    (p : ℕ) (xs ys : List Sent) (b : Bus) → BusFit (b .devices) → AllAlike p (turnAt p (b .devices)) xs ys → SameBut p (busPlayed xs b) (busPlayed ys b)
+    (p : ℕ) (xs ys : List Sent) (b : Bus) → BusFit (b .devices) → AllTrue (b .devices) → AllAlike p (turnAt p (b .devices)) xs ys → SameBut p (busPlayed xs b) (busPlayed ys b)
 others-the-same = non-interference
 
 -- data are all bytes behind the write address, as many on either side
@@ -100,10 +104,10 @@ shows d row column = glassOf (d .chip) (d .memory) row column
 
 -- and so does their glass
 pub others-show-the-same :
-    (p : ℕ) (xs ys : List Sent) (b : Bus) → BusFit (b .devices) → AllAlike p (turnAt p (b .devices)) xs ys → (q : ℕ) → (q ≡ p → ⊥) → (row column : ℕ)
+    (p : ℕ) (xs ys : List Sent) (b : Bus) → BusFit (b .devices) → AllTrue (b .devices) → AllAlike p (turnAt p (b .devices)) xs ys → (q : ℕ) → (q ≡ p → ⊥) → (row column : ℕ)
     → shows (deviceWith q (busPlayed xs b .devices)) row column ≡ shows (deviceWith q (busPlayed ys b .devices)) row column
-others-show-the-same p xs ys b fit alike q apart row column =
-    ap (λ (d : Device). shows d row column) (others-the-same p xs ys b fit alike .by-pins q apart)
+others-show-the-same p xs ys b fit t alike q apart row column =
+    ap (λ (d : Device). shows d row column) (others-the-same p xs ys b fit t alike .by-pins q apart)
 
 phase-unseen : (c : Chip) (q : Phase) (m : List ℕ) (row column : ℕ) → glassOf (inPhase c q) m row column ≡ glassOf c m row column
 unfolding glassOf glassRefusal placeRefusal allowed

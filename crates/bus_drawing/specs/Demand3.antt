@@ -6,6 +6,7 @@ use mathlib.Core.Path.{_≡_}
 use Prim.Native.Nat.{ℕ, _+_, _^_, _<_}
 use lib.ListN.{getD, length, take}
 use Rattle.registers.specs.declared.Chip.{Chip}
+use Rattle.chip.specs.Promised.{TrueCounts}
 use Rattle.lists.specs.declared.Line.{Line}
 use Rattle.lists.specs.Lists.{lines, readingOf}
 use Rattle.drawing.specs.Plain.{pictureOf, plainReading}
@@ -24,12 +25,14 @@ pub record DrawnOnBus (ls : List Line) (xs : List Sent) (p : ℕ) (b : Bus) : Ty
   pub others-kept : OthersKept p b (busPlayed xs b)
   -- the bus has counted each event
   pub count-after : busPlayed xs b .count ≡ b .count + length xs
+  -- that chip's counts of pixels are true then
+  pub true-counts : TrueCounts (chipOn p (busPlayed xs b))
 
 -- the text has a plain reading, and the output's first n events, whatever pins are sent beside them, draw it on every bus that 1, 2 and 12 let pass
--- and that has a chip with the record it was compiled for, from any count that has room for them
+-- and that has a chip with the record it was compiled for, with true counts of its pixels, whatever the others', from any count that has room for them
 pub record DrawsOnBus (c : Chip) (text : List ℕ) (n : ℕ) (out : List ℕ) : Type 0 where
   pub list : List Line
   pub reads : readingOf text ≡ lines list
   pub plays :
-      (b : Bus) → BusFit (b .devices) → isOn (c .pins) (b .devices) ≡ true → deviceWith (c .pins) (b .devices) .chip ≡ c → b .count + n < 2 ^ 64
-      → (xs : List Sent) → eventsOf xs ≡ take n out → DrawnOnBus list xs (c .pins) b
+      (b : Bus) → BusFit (b .devices) → isOn (c .pins) (b .devices) ≡ true → deviceWith (c .pins) (b .devices) .chip ≡ c
+      → TrueCounts (chipOn (c .pins) b) → b .count + n < 2 ^ 64 → (xs : List Sent) → eventsOf xs ≡ take n out → DrawnOnBus list xs (c .pins) b

@@ -13,8 +13,8 @@ use Rattle.engine.specs.declared.answer.Answer.{Answer}
 use Rattle.engine.specs.Event.{numberOf, isAcknowledged}
 use Rattle.engine.proofs.Numbers.{NoRefusal, no-refusal-number, same-answer}
 use Rattle.bus.specs.Answers.{Acknowledges}
-use Rattle.bus.specs.Bus.{Bus, bus, Somewhere}
-use Rattle.bus.specs.Refusals.{devicesRefusal, isSensorReading, sentRefusal, busRefusal}
+use Rattle.bus.specs.Bus.{Bus, bus, Somewhere, every}
+use Rattle.bus.specs.Refusals.{devicesRefusal, isSensorReading, sentRefusal, countsFit, pixelsRefusalFor, busRefusal}
 use Rattle.bus.specs.Step.{busStepOf}
 use Rattle.bus.proofs.Laws as by-bus
 use Rattle.bus_host.specs.Buffers.{Lent, deviceIn, hasLengths, hasRecord, everyLent}
@@ -37,11 +37,15 @@ event-small false true c = omega arith
 event-small false false true = omega arith
 event-small false false false = omega arith
 
-then-small : (a b : ℕ) → a ≤ 13 → b ≤ 13 → (a then b) ≤ 13
+pixels-small : (t : Bool) → pixelsRefusalFor t ≤ 16
+pixels-small true = omega arith
+pixels-small false = omega arith
+
+then-small : (a b : ℕ) → a ≤ 16 → b ≤ 16 → (a then b) ≤ 16
 then-small zero b ha hb = hb
 then-small (suc a) b ha hb = ha
 
-refusal-tells-none : (r : ℕ) → r ≤ 13 → tellsAcknowledge r ≡ false
+refusal-tells-none : (r : ℕ) → r ≤ 16 → tellsAcknowledge r ≡ false
 refusal-tells-none r h = simp (ne-eqb r 257 (λ q. omega arith), lt-leb 259 r (omega arith))
 
 never-none : (t : Bool) → noRecordFor t ≡ 0 → ⊥
@@ -65,10 +69,12 @@ module _ (e k : ℕ) (ls : List Lent) (n : ℕ) where
   sent-small = event-small (not (isListedEvent e)) (isSensorReading e && ltb 3 k) (eqb n (2 ^ 64 - 1))
 
   -- the numbers of refusals end below those of answers
-  pub refusal-small : busCallRefusal e k ls n ≤ 13
+  pub refusal-small : busCallRefusal e k ls n ≤ 16
   refusal-small =
-      then-small (lentRefusal ls) (sentRefusal e k n)
-      (devices-small (not (everyLent hasLengths ls)) (not (everyLent hasRecord ls)) (not (pinsWordsDiffer ls && phaseWordsAgree ls))) sent-small
+      then-small (lentRefusal ls) (sentRefusal e k n then pixelsRefusalFor (every (countsFit e) (map deviceIn ls)))
+      (omega
+      (arith, devices-small (not (everyLent hasLengths ls)) (not (everyLent hasRecord ls)) (not (pinsWordsDiffer ls && phaseWordsAgree ls))))
+      (then-small (sentRefusal e k n) _ (omega (arith, sent-small)) (pixels-small (every (countsFit e) (map deviceIn ls))))
 
   -- a refused call changes none of the buffers, nor the count
   pub bus-refused : (r : ℕ) → busCallRefusal e k ls n ≡ suc r → busCall e k ls n ≡ called (suc r) ls n

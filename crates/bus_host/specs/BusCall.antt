@@ -6,8 +6,8 @@ use lib.Dec.{eqb, leb, ltb}
 use lib.ListN.{getD}
 use Rattle.registers.specs.Refusals.{refuse, _then_}
 use Rattle.engine.specs.Event.{numberOf}
-use Rattle.bus.specs.Bus.{bus}
-use Rattle.bus.specs.Refusals.{sentRefusal}
+use Rattle.bus.specs.Bus.{bus, every}
+use Rattle.bus.specs.Refusals.{sentRefusal, countsFit, pixelsRefusalFor}
 use Rattle.bus.specs.Step.{BusAfter, busStepOf}
 use Rattle.bus_host.specs.Buffers.{Lent, deviceIn, lentBy, hasLengths, hasRecord, everyLent, howManyLent}
 use Rattle.record_words.specs.Words.{PINS, PHASE}
@@ -58,9 +58,9 @@ abbrev pub lentRefusal : List Lent → ℕ
 lentRefusal ls =
     refuse (not (everyLent hasLengths ls)) 1 then refuse (not (everyLent hasRecord ls)) 2 then refuse (not (pinsWordsDiffer ls && phaseWordsAgree ls)) 12
 
--- then 3, 13 and 4, of the event
+-- then 3, 13 and 4, of the event, and 16 of what it would do to the records that the words stand for
 abbrev pub busCallRefusal : ℕ → ℕ → List Lent → ℕ → ℕ
-busCallRefusal e k ls n = lentRefusal ls then sentRefusal e k n
+busCallRefusal e k ls n = lentRefusal ls then sentRefusal e k n then pixelsRefusalFor (every (countsFit e) (map deviceIn ls))
 
 -- ---- the numbers by which a byte is acknowledged: 257, and of commands 259, 260 and 261
 

@@ -5,14 +5,14 @@ use mathlib.Core.Path.{_≡_, refl, sym, ap, _∙_, subst}
 use Prim.Native.Nat.{ℕ, _+_, _*_, _^_, _≤_, _<_}
 use native.Mathlib.Nat.{zero-add, add-zero}
 use native.Mathlib.Omega.{arith}
-use borrow.Author.Tests.{lt-ltb, le-ltb, lt-leb, le-leb, leb-true}
+use borrow.Author.Tests.{lt-ltb, le-ltb, lt-leb, le-leb}
 use lib.Dec.{leb}
 use lib.ListN.{length, drop, length-append}
 use lib.Seq.{sets}
 use Rattle.registers.specs.declared.Chip.{Chip}
 use Rattle.registers.specs.declared.Registers.{Registers}
-use Rattle.registers.specs.Record.{allowed, allowedRegisters, blank}
-use Rattle.registers.proofs.Within.{both-left, both-right}
+use Rattle.registers.specs.Record.{allowed, blank}
+use Rattle.registers.proofs.Within.{allowed-registers, allowed-pins}
 use Rattle.lists.specs.declared.Line.{Line}
 use Rattle.lists.specs.declared.LineAt.{LineAt}
 use Rattle.lists.specs.declared.Parsed.the-variants.{Good, Bad}
@@ -295,11 +295,10 @@ module _ (pins : ℕ) (q : Registers) (text : List ℕ) (x : Measured) (measured
 pub readable :
     (c : Chip) (text : List ℕ) → allowed c ≡ true → {n : ℕ} → n ≡ newlines text → n ≤ 4096 → {q : Registers} → q ≡ blank (c .registers)
     → (newlines text ≤ 4096) × Tracked q × (c .pins ≤ 3)
-unfolding allowed
 readable c text ok counted few blanked = (
   subst (λ (z : ℕ). z ≤ 4096) counted few,
-  subst Tracked (sym blanked) (blank-tracked (c .registers) (both-left (allowedRegisters (c .registers)) (leb (c .pins) 3) ok)),
-  leb-true (c .pins) 3 (both-right (allowedRegisters (c .registers)) (leb (c .pins) 3) ok),
+  subst Tracked (sym blanked) (blank-tracked (c .registers) (allowed-registers c ok)),
+  allowed-pins c ok,
 )
 
 module _ (c : Chip) (text out : List ℕ) where

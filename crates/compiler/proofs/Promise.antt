@@ -61,9 +61,9 @@ module _ (c : Chip) (text out : List ℕ) where
       record {
         list = ls;
         reads = reads;
-        plays = λ m w before fit more.
+        plays = λ m w before fit t more.
             subst (λ (z : List ℕ). Demand3 ls z (state c m w before)) (sym first)
-            (text-demand-3 text ls reads (state c m w before) fit (subst (λ (z : ℕ). before + z < 2 ^ 64) count more));
+            (text-demand-3 text ls reads (state c m w before) fit t (subst (λ (z : ℕ). before + z < 2 ^ 64) count more));
       }
 
   from-text :

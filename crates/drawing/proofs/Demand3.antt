@@ -9,7 +9,7 @@ use Rattle.registers.specs.declared.Registers.{Registers}
 use Rattle.registers.specs.Record.{blank}
 use Rattle.registers.specs.State.{State}
 use Rattle.chip.specs.Plays.{Plays}
-use Rattle.chip.specs.Promised.{Fit}
+use Rattle.chip.specs.Promised.{Fit, TrueCounts}
 use Rattle.chip.specs.Promised.{Unknown, OutOfRange}
 use Rattle.chip.proofs.Plays.{plays-none, plays-append, plays-weaken, plays-end, plays-good, plays-run}
 use Rattle.chip.proofs.Tallies.{plays-tally}
@@ -54,18 +54,18 @@ list-plays (l ∷ ls) fit q m pins k s shows =
     (more-room q m pins (length (lineEvents pins l q ++ rest) + k) (length (lineEvents pins l q) + (length rest + k)) s
     (ap (λ (n : ℕ). n + k) (length-append (lineEvents pins l q) rest) ∙ add-assoc (length (lineEvents pins l q)) (length rest) k) shows)))
 
--- from any state that 1 and 2 let pass, with room in the count
+-- from any state that 1 and 2 let pass, with true counts of pixels and room in the count
 pub demand-3 :
-    (ls : List Line) → AllFit ls → (s : State) → Fit s → s .count + length (stream (s .chip .pins) ls (blank (s .chip .registers))) < 2 ^ 64
+    (ls : List Line) → AllFit ls → (s : State) → Fit s → TrueCounts s → s .count + length (stream (s .chip .pins) ls (blank (s .chip .registers))) < 2 ^ 64
     → Demand3 ls (stream (s .chip .pins) ls (blank (s .chip .registers))) s
-demand-3 ls fits s fit room =
+demand-3 ls fits s fit t room =
     let q = blank (s .chip .registers) in
     let pins = s .chip .pins in
     let es = stream pins ls q in
     let start : Shows q (s .memory) pins (length es + 0) s =
     record {
       full = s .chip .registers;
-      visible = record { registers = refl; memory = refl; pins-are = refl; fit = fit; room = omega (arith, room) };
+      visible = record { registers = refl; memory = refl; pins-are = refl; fit = fit; true-counts = t; room = omega (arith, room) };
       same = refl;
     }
     in
@@ -78,14 +78,15 @@ demand-3 ls fits s fit room =
       same-run = plays-run es (Shows (after .registers) (after .cells) pins 0) s fit played-all;
       none-unknown = plays-tally Unknown refl es (Shows (after .registers) (after .cells) pins 0) s played-all;
       none-out-of-range = plays-tally OutOfRange refl es (Shows (after .registers) (after .cells) pins 0) s played-all;
+      true-counts = end .visible .true-counts;
     }
 
 -- ---- a whole text
 
 -- demand 3 of every text whose lines are all accepted
 pub text-demand-3 :
-    (text : List ℕ) (ls : List Line) → readingOf text ≡ lines ls → (s : State) → Fit s
+    (text : List ℕ) (ls : List Line) → readingOf text ≡ lines ls → (s : State) → Fit s → TrueCounts s
     → s .count + length (stream (s .chip .pins) ls (blank (s .chip .registers))) < 2 ^ 64
     → Demand3 ls (stream (s .chip .pins) ls (blank (s .chip .registers))) s
 unfolding readingOf
-text-demand-3 text ls e s fit room = demand-3 ls (all-fit ls (reading-accepted 1 text ls e .within)) s fit room
+text-demand-3 text ls e s fit t room = demand-3 ls (all-fit ls (reading-accepted 1 text ls e .within)) s fit t room

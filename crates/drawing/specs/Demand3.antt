@@ -7,7 +7,7 @@ use Rattle.registers.specs.declared.Chip.{Chip}
 use Rattle.registers.specs.State.{State, state}
 use Rattle.chip.specs.LastWriter.{before}
 use Rattle.chip.specs.Plays.{Good, played}
-use Rattle.chip.specs.Promised.{Fit, runOf, outcome}
+use Rattle.chip.specs.Promised.{Fit, TrueCounts, runOf, outcome}
 use Rattle.chip.specs.Promised.{Unknown, OutOfRange, tally}
 use Rattle.lists.specs.declared.Line.{Line}
 use Rattle.lists.specs.Lists.{lines, readingOf}
@@ -24,10 +24,12 @@ pub record Demand3 (ls : List Line) (es : List ℕ) (s : State) : Type 0 where
   -- and counts no unknown command, and none out of range
   pub none-unknown : tally Unknown es s ≡ 0
   pub none-out-of-range : tally OutOfRange es s ≡ 0
+  -- and the counts of pixels are true then
+  pub true-counts : TrueCounts (played es s)
 
 -- the text has a plain reading, and the output's first n events play it on the record it was compiled for: with any two memories that 1 lets
--- pass, the record being one that 2 lets pass, and from any count that has room for them
+-- pass, the record being one that 2 lets pass, with true counts of pixels, and from any count that has room for them
 pub record Draws (c : Chip) (text : List ℕ) (n : ℕ) (out : List ℕ) : Type 0 where
   pub list : List Line
   pub reads : readingOf text ≡ lines list
-  pub plays : (m w : List ℕ) (count : ℕ) → Fit (state c m w count) → count + n < 2 ^ 64 → Demand3 list (take n out) (state c m w count)
+  pub plays : (m w : List ℕ) (count : ℕ) → Fit (state c m w count) → TrueCounts (state c m w count) → count + n < 2 ^ 64 → Demand3 list (take n out) (state c m w count)
