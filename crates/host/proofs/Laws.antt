@@ -35,6 +35,7 @@ use Rattle.host.proofs.Refusals.{one-or-two, never-none, entry-of-none,
 use Rattle.record_words.proofs.Laws.{words-chip-words, stands-allowed}
 use Rattle.host.proofs.Steps.{buffersOf, as-buffers, as-stands, no-record-stepped}
 use Rattle.host.proofs.Commands.{command-awaited, awaits-command, step-command-number, counted-stands, counted-none}
+use Rattle.host.proofs.Counting.{true-chip}
 use Rattle.host.proofs.Playing.{played-by-calls, last-writer-stands, last-writer-none}
 
 module _ (ws m w : List ℕ) (count : ℕ) where
@@ -53,7 +54,7 @@ module _ (ws m w : List ℕ) (count : ℕ) where
       where
         go : (t : Bool) → standsFor ws ≡ t → stepCall event ws m w count ≡ afterStep (accepted event (state (chipOf ws) m w count))
         go true h = rw (h, refusal-of-chip ws m w event count h ∙ r)
-        go false h = absurd (never-none ws m w (sym (refused-at-entry ws m w h (eventRefusal event count)) ∙ r))
+        go false h = absurd (never-none ws m w (sym (refused-at-entry ws m w h _) ∙ r))
 
     -- and adds 1 to the count
     pub step-adds : stepRefusal event ws m w count ≡ 0 → stepCall event ws m w count .count ≡ count + 1
@@ -191,10 +192,10 @@ module _ (ws text out : List ℕ) where
       record {
         list = draws .list;
         reads = draws .reads;
-        plays = λ m w count lm lw room.
+        plays = λ m w count lm lw t room.
             let fit : Fit (state (chipOf ws) m w count) = record { memory-long = lm; writers-long = lw; is-allowed = stands-allowed ws h } in
             subst (PlayedByCalls (draws .list) (take n (compileOf (chipOf ws) text out .out))) (sym (as-buffers ws m w count h))
-            (played-by-calls (draws .list) _ _ (as-stands ws m w count h) (draws .plays m w count fit room));
+            (played-by-calls (draws .list) _ _ (as-stands ws m w count h) (draws .plays m w count fit (true-chip ws m w count t) room));
       }
 
   -- a list that pcf8820_compile accepts is drawn by calls of pcf8820_step, and by one of pcf8820_run

@@ -18,7 +18,7 @@ use Rattle.engine.specs.Run.{outcome, runOf}
 use Rattle.engine.proofs.Numbers.{no-refusal-number}
 use Rattle.chip.specs.LastWriter.{before, LastWriter}
 use Rattle.chip.specs.LastWriter as chip
-use Rattle.chip.specs.Phases.{awaitsData}
+use Rattle.chip.proofs.Refusals.{data-rs}
 use Rattle.chip.specs.Plays.{played}
 use Rattle.chip.proofs.Laws.{display-law, run-steps, last-writer}
 use Rattle.chip.proofs.Events.{answered-command}
@@ -32,6 +32,8 @@ use Rattle.host.proofs.Steps.{acknowledged-number, number-acknowledged}
 use Rattle.host.proofs.Steps.{buffersOf, Stands, call-steps, step-answers, Accepted, upon-event, after-events, call-runs}
 use Rattle.host.proofs.Steps.{no-record-ran}
 use Rattle.host.proofs.Commands.{command-awaited, awaits-command}
+use Rattle.host.proofs.Counting.{true-words}
+use Rattle.host.specs.Counting.{TrueWords}
 
 -- ---- demand 3
 
@@ -52,6 +54,7 @@ played-by-calls ls es s h d =
       same-picture = ap pictureIn ends ∙ picture-of (played es s) ∙ d .same-picture ∙ ap (plainReading ls) (sym (picture-of s));
       same-run =
           call-runs es s h ∙ whole ∙ ap (λ (b : Buffers). ran 0 (length es) 0 0 (b .words) (b .memory) (b .writers) (b .count)) (sym ends);
+      true-counts = subst (λ (b : Buffers). TrueWords (b .words) (b .memory)) (sym ends) (true-words (played es s) (d .true-counts));
     }
   where
     accepted : Accepted es (length es) s
@@ -84,16 +87,6 @@ played-by-calls ls es s h d =
         ∙ ap (λ (r : Stepped). r .number) (call-steps (before es i s) (stands i l) (getD es i 0))
 
 -- ---- the last writer
-
-data-rs : (p : Phase) → awaitsData p ≡ phaseRs p
-data-rs Idle = refl
-data-rs AddressAwaited = refl
-data-rs Ignoring = refl
-data-rs ControlAwaited = refl
-data-rs (OneByte rs) = refl
-data-rs (EndlessBytes rs) = refl
-data-rs Reading = refl
-data-rs ReadEnded = refl
 
 bit-one : (t : Bool) → bit t ≡ 1 → t ≡ true
 bit-one true e = refl

@@ -9,7 +9,7 @@ use lib.ListN.{length}
 use Rattle.registers.specs.Refusals.{refuse, _then_}
 use Rattle.registers.specs.State.{state, places}
 use Rattle.engine.specs.Step as inside
-use Rattle.engine.specs.Step.{eventRefusal, refusalOf}
+use Rattle.engine.specs.Step.{eventRefusal, pixelRefusal, refusalOf}
 use Rattle.record_words.specs.Words.{standsFor, chipOf}
 use Rattle.host.specs.Calls.{noRecord, stepRefusal, entryRefusal}
 use Rattle.record_words.proofs.Laws.{stands-allowed}
@@ -43,4 +43,4 @@ module _ (ws m w : List ℕ) where
 
   pub refusal-of-chip : (event count : ℕ) → standsFor ws ≡ true → refusalOf event (state (chipOf ws) m w count) ≡ stepRefusal event ws m w count
   unfolding refusalOf
-  refusal-of-chip event count h = ap (λ (k : ℕ). k then eventRefusal event count) (entry-of-chip count h)
+  refusal-of-chip event count h = ap (λ (k : ℕ). k then eventRefusal event count then pixelRefusal event (chipOf ws) m) (entry-of-chip count h)

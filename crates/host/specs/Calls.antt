@@ -9,7 +9,7 @@ use Rattle.registers.specs.Refusals.{refuse, _then_, lengthsRefusal}
 use Rattle.registers.specs.State.{State, state}
 use Rattle.chip.specs.Promised.{Unknown, OutOfRange}
 use Rattle.engine.specs.Event.{numberOf}
-use Rattle.engine.specs.Step.{After, stepOf, eventRefusal}
+use Rattle.engine.specs.Step.{After, stepOf, eventRefusal, pixelRefusal}
 use Rattle.engine.specs.Run.{Outcome, runOf, tally}
 use Rattle.record_words.specs.Words.{recordLength, standsFor, chipOf, wordsOf}
 
@@ -82,11 +82,11 @@ unfoldable pub runCall : List ℕ → List ℕ → List ℕ → List ℕ → ℕ
 runCall events ws m w count =
     cond (standsFor ws) (runFor events (state (chipOf ws) m w count)) (ran (noRecord m w) 0 0 0 ws m w count)
 
--- ---- exactly when a call is refused: document 01's numbers in their order, read off what the host lends; 0 is none
+-- ---- exactly when a call is refused: the numbers in their order, read off what the host lends; 0 is none
 
 -- at entry, of a step and of a run
 abbrev pub entryRefusal : List ℕ → List ℕ → List ℕ → ℕ
 entryRefusal ws m w = lengthsRefusal (length m) (length w) then refuse (not (standsFor ws)) 2
 
 abbrev pub stepRefusal : ℕ → List ℕ → List ℕ → List ℕ → ℕ → ℕ
-stepRefusal event ws m w count = entryRefusal ws m w then eventRefusal event count
+stepRefusal event ws m w count = entryRefusal ws m w then eventRefusal event count then pixelRefusal event (chipOf ws) m

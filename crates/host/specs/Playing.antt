@@ -14,6 +14,7 @@ use Rattle.lists.specs.declared.Line.{Line}
 use Rattle.lists.specs.Lists.{lines, readingOf}
 use Rattle.drawing.specs.Plain.{Picture, plainReading}
 use Rattle.record_words.specs.Words.{PHASE, PHASE-RS}
+use Rattle.host.specs.Counting.{TrueWords}
 use Rattle.host.specs.Calls.{Stepped, stepCall, stepRefusal, Ran, ran, runCall}
 
 -- what is lent with an event: the record's words, display bytes, writer numbers and the event count
@@ -92,13 +93,16 @@ pub record PlayedByCalls (ls : List Line) (es : List ℕ) (b : Buffers) : Type 0
   pub same-run :
       runOn es b
       ≡ ran 0 (length es) 0 0 (afterEvents es b .words) (afterEvents es b .memory) (afterEvents es b .writers) (afterEvents es b .count)
+  -- and the record's counts of pixels are true then
+  pub true-counts : TrueWords (afterEvents es b .words) (afterEvents es b .memory)
 
--- the text has a plain reading, and the output's first n events play it: with any two memories 1,717 long, and from any count that has room for them
+-- the text has a plain reading, and the output's first n events play it: with any two memories 1,717 long, the record's counts of pixels being those of
+-- the first, and from any count that has room for them
 pub record DrawnByCalls (ws text : List ℕ) (n : ℕ) (out : List ℕ) : Type 0 where
   pub list : List Line
   pub reads : readingOf text ≡ lines list
   pub plays :
-      (m w : List ℕ) (count : ℕ) → length m ≡ places → length w ≡ places → count + n < 2 ^ 64
+      (m w : List ℕ) (count : ℕ) → length m ≡ places → length w ≡ places → TrueWords ws m → count + n < 2 ^ 64
       → PlayedByCalls list (take n out) (buffers ws m w count)
 
 -- ---- the last writer
