@@ -282,14 +282,14 @@ run-stays-fit es s fit = go (entryRefusal s)
     go zero = from-fit 0 es s fit
     go (suc x) = fit
 
--- true counts stay true over a run
+-- true counts stay true from event to event, and over a run
+pub events-stay-true : (es : List ℕ) (n : ℕ) (s : State) → TrueCounts s → TrueCounts (before es n s)
+events-stay-true [] n s t = t
+events-stay-true (e ∷ es) zero s t = t
+events-stay-true (e ∷ es) (suc n) s t = events-stay-true es n (stepOf e s .state) (stays-true e s t)
+
 pub run-stays-true : (es : List ℕ) (s : State) → TrueCounts s → TrueCounts (runOf es s .state)
-run-stays-true es s t = subst TrueCounts (sym (run-steps es s .ends)) (over es (runOf es s .done) s t)
-  where
-    over : (xs : List ℕ) (n : ℕ) (q : State) → TrueCounts q → TrueCounts (before xs n q)
-    over [] n q t = t
-    over (x ∷ xs) zero q t = t
-    over (x ∷ xs) (suc n) q t = over xs n (stepOf x q .state) (stays-true x q t)
+run-stays-true es s t = subst TrueCounts (sym (run-steps es s .ends)) (events-stay-true es (runOf es s .done) s t)
 
 -- the last writer, demand 2: at every place either nothing was stored and byte and writer are as they were, or the last display byte that was stored
 -- there is named by the writer and its stored byte is there

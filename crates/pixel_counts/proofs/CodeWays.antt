@@ -1,46 +1,16 @@
--- Ways through the code, over plain variables: of a byte's pixels, and of the counts of a memory.
-use mathlib.Core.Bool.{Bool, true, false, cond}
+-- Ways through the code, over plain variables: the counts of a memory, and a counting start.
 use mathlib.Core.List.{List}
 use mathlib.Core.Path.{_≡_, refl, sym, ap, _∙_}
-use Prim.Native.Nat.{ℕ, zero, suc, _+_, _*_, _/_, _%_, _≤_, _<_}
+use Prim.Native.Nat.{ℕ, zero, suc, _+_, _*_, _≤_}
 use native.Mathlib.Numerals.{add-one}
 use native.Mathlib.Omega.{arith}
-use borrow.Author.Tests.{lt-ltb, le-ltb}
-use lib.Dec.{eqb}
 use lib.ListN.{getD, length}
 use Rattle.registers.specs.declared.PixelCounts.{PixelCounts}
 use Rattle.registers.specs.Record.{byValue}
 use Rattle.registers.specs.Refusals.{lengthRefusal}
-use Rattle.glass.specs.Pixel.{valueIn}
 use Rattle.pixel_counts.specs.Counts.{countOf, countsOf, counted, countingStart}
-use Rattle.pixel_counts.specs.Mending.{tally, pixelsAt, shown}
+use Rattle.pixel_counts.specs.Mending.{shown}
 use Rattle.pixel_counts.proofs.Places.{inPlaces, next-place, no-place, by-places}
-
--- ---- the pixels of a byte
-
-value-0 : (b : ℕ) → valueIn b 0 ≡ b % 4
-value-0 b = omega arith
-
-value-1 : (b : ℕ) → valueIn b 1 ≡ b / 4 % 4
-value-1 b = omega arith
-
-value-2 : (b : ℕ) → valueIn b 2 ≡ b / 16 % 4
-value-2 b = omega arith
-
-value-3 : (b : ℕ) → b < 256 → valueIn b 3 ≡ b / 64
-value-3 b h = omega arith
-
--- three rows, of which the lowest is that of the lowest bits
-pub three-shown :
-    (v place b : ℕ) → 1616 ≤ place → shown v place b ≡ cond (eqb (b % 4) v) 1 0 + cond (eqb (b / 4 % 4) v) 1 0 + cond (eqb (b / 16 % 4) v) 1 0
-unfolding shown tally
-three-shown v place b h = rw (le-ltb place 1616 h, value-0 b, value-1 b, value-2 b) (omega arith)
-
-pub four-shown :
-    (v place b : ℕ) → b < 256 → place < 1616
-    → shown v place b ≡ cond (eqb (b % 4) v) 1 0 + cond (eqb (b / 4 % 4) v) 1 0 + cond (eqb (b / 16 % 4) v) 1 0 + cond (eqb (b / 64) v) 1 0
-unfolding shown tally
-four-shown v place b l h = rw (lt-ltb place 1616 h, value-0 b, value-1 b, value-2 b, value-3 b l) (omega arith)
 
 -- ---- the counts of a memory
 

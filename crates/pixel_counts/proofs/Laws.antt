@@ -3,10 +3,10 @@ use mathlib.Core.Bool.{Bool, true, false, cond, _&&_}
 use mathlib.Core.List.{List}
 use mathlib.Core.Logic.{_↔_, _⊎_, inl, inr}
 use mathlib.Core.Path.{_≡_, refl, sym, ap, _∙_, subst}
-use Prim.Native.Nat.{ℕ, zero, suc, _+_, _*_, _-_, _≤_, _<_}
+use Prim.Native.Nat.{ℕ, zero, suc, _+_, _*_, _/_, _%_, _-_, _≤_, _<_}
 use native.Mathlib.Nat.{zero-div}
 use native.Mathlib.Omega.{arith}
-use borrow.Author.Tests.{leb-true, leb-false, le-leb, eq-eqb}
+use borrow.Author.Tests.{leb-true, leb-false, le-leb, eq-eqb, ne-eqb}
 use lib.Dec.{leb, eqb}
 use lib.ListN.{getD, length, set, replicate}
 use Rattle.registers.specs.declared.PixelCounts.{PixelCounts}
@@ -17,6 +17,7 @@ use Rattle.registers.proofs.Within.{both-left, both-right, count-bound}
 use Rattle.glass.specs.Pixel.{valueIn}
 use Rattle.pixel_counts.specs.Counts.{ofValue, inRow, inRows, countOf, countsOf, counted, countingStart}
 use Rattle.pixel_counts.specs.Mending.{shown, fits, moved, fitsFor, movedFor, mendable, mended, StaysIn, GoesOut}
+use Rattle.pixel_counts.proofs.Pixels.{three-shown}
 use Rattle.pixel_counts.proofs.Places.{set-moves}
 use Rattle.pixel_counts.proofs.Sums as Sums
 
@@ -225,9 +226,36 @@ module _ (m : List ℕ) (clear : (k : ℕ) → getD m k 0 ≡ 0) where
   unfolding countsOf countOf
   cleared-counts = simp (clear-rows 0 67, clear-rows 1 67, clear-rows 2 67, clear-rows 3 67)
 
+-- a memory of zeros
+pub zeros-cleared : (n : ℕ) → countsOf (replicate n 0) ≡ cleared
+zeros-cleared n = cleared-counts (replicate n 0) (all-zero n)
+  where
+    all-zero : (n k : ℕ) → _≡_ {A = ℕ} (getD (replicate n 0) k 0) 0
+    all-zero zero k = refl
+    all-zero (suc n) zero = refl
+    all-zero (suc n) (suc k) = all-zero n k
+
+-- ---- bank 16
+
+-- bits 6 and 7 of its bytes count for nothing
+pub six-bits : (v place b : ℕ) → 1616 ≤ place → shown v place b ≡ shown v place (b % 64)
+six-bits v place b h =
+    three-shown v place b h
+    ∙ same-three v (b % 4) (b / 4 % 4) (b / 16 % 4) (b % 64 % 4) (b % 64 / 4 % 4) (b % 64 / 16 % 4) (omega arith) (omega arith) (omega arith)
+    ∙ sym (three-shown v place (b % 64) h)
+  where
+    same-three :
+        (v x y z x′ y′ z′ : ℕ) → x ≡ x′ → y ≡ y′ → z ≡ z′
+        → ofValue v x + ofValue v y + ofValue v z ≡ ofValue v x′ + ofValue v y′ + ofValue v z′
+    same-three v x y z x′ y′ z′ ex ey ez = rw (ex, ey, ez)
+
 -- ---- a counting start
 
--- refused by 1 exactly where the memory is not 1,717 long; else its counts are true
+-- of a memory of its length its counts are true; of any other it is refused by 1, and gives none
 pub start-counts : (m : List ℕ) → length m ≡ places → countingStart m ≡ counted 0 (countsOf m)
 unfolding countingStart
 start-counts m h = simp (eq-eqb _ _ h)
+
+pub start-refused : (m : List ℕ) → (length m ≡ places → ⊥) → countingStart m ≡ counted 1 (byValue (λ v. 0))
+unfolding countingStart
+start-refused m n = simp (ne-eqb _ _ n)

@@ -1,4 +1,5 @@
 pub mod CodeWays
+pub mod Pixels
 pub mod Places
 pub mod Laws
 pub mod Sums

@@ -1,6 +1,6 @@
 use native.Mathlib.Omega.{arith}
 use mathlib.Core.Path.{sym, _∙_}
-use Rattle.pixel_counts.proofs.CodeWays.{three-shown, four-shown}
+use Rattle.pixel_counts.proofs.Pixels.{three-shown, four-shown}
 use borrow.Author.Needs.{needs}
 use Rattle.pixel_counts.proofs.mending.shown.Statement.{statement}
 use Rattle.pixel_counts.proofs.mending.shown.Tie as tie
