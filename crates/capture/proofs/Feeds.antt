@@ -14,7 +14,7 @@ use Rattle.capture.specs.declared.Capture.{Capture}
 use Rattle.capture.specs.Feeding.{Playing, playing, kept, startOf, bytesFed, partRefusal, PartFed, fed, feedOf, thenFed, isOver, finishOf, meaning}
 use Rattle.capture.specs.Replay.{Replay, unlessRefused, replayOf}
 use Rattle.capture.specs.Where.{Lent, Passed}
-use Rattle.capture.proofs.Refusals.{by-lent, replay-lent, replay-not-lent, part-when, none-refused, kept-none, started-fit, stays-passed}
+use Rattle.capture.proofs.Refusals.{by-lent, replay-lent, replay-not-lent, part-when, none-refused, kept-none, start-passed, stays-passed}
 use Rattle.capture.proofs.Whole.{resultOf, stuck, stuck-first, text-fed}
 
 bytes-append : (xs ys : List ℕ) (p : Playing) → bytesFed (xs ++ ys) p ≡ bytesFed ys (bytesFed xs p)
@@ -77,8 +77,8 @@ text-replayed text m w = ⊎-elim right wrong (by-lent m w)
   where
     right : Lent m w → fedResult (feedOf text (kept startOf m w)) ≡ replayOf text m w
     right lent =
-        ap fedResult (feed-passed text (kept startOf m w) (record { fit = started-fit 0 m w (omega arith) lent; line-allowed = refl }))
-        ∙ text-fed m w lent text
+        ap fedResult (feed-passed text (kept startOf m w) (start-passed m w lent))
+        ∙ text-fed (kept startOf m w .state) lent text
         ∙ sym (replay-lent text m w lent)
 
     wrong : (Lent m w → ⊥) → fedResult (feedOf text (kept startOf m w)) ≡ replayOf text m w

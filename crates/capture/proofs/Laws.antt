@@ -8,10 +8,11 @@ use Prim.Native.Nat.{ℕ, zero, suc, _+_, _≤_}
 use native.Mathlib.Omega.{arith}
 use lib.Dec.{T}
 use Rattle.registers.specs.Refusals.{refuse, _then_}
+use Rattle.registers.specs.declared.Chip.{Chip}
 use Rattle.registers.specs.State.{State}
 use Rattle.chip.specs.LastWriter.{Untouched, Written}
-use Rattle.chip.specs.Promised.{Fit, Outcome, runOf}
-use Rattle.chip.proofs.Laws.{last-writer}
+use Rattle.chip.specs.Promised.{Fit, Outcome, runOf, refusalOf, countsOf, TrueCounts}
+use Rattle.chip.proofs.Laws.{last-writer, true-never-16}
 use Rattle.capture_lines.specs.declared.LineSoFar.{LineSoFar}
 use Rattle.capture_lines.specs.declared.LineSoFar.the-variants.{First, Pins, Empty, Number, BadFirst, Bad}
 use Rattle.capture.specs.declared.Capture.{Capture}
@@ -20,12 +21,12 @@ use Rattle.capture.specs.Cells.{zeros, start, CellAfter}
 use Rattle.capture.specs.Feeding.{Playing, kept, startOf, captureAllowed, partRefusal, PartFed, fed, feedOf}
 use Rattle.capture.specs.Feeding.{thenFed, feedParts, allParts, isOver, endOf, endUnless, finishOf, meaning}
 use Rattle.capture.specs.Reading.{captureText}
-use Rattle.capture.specs.Replay.{refusedBy, refusedAt, replayed, started, replayBy, replayOf}
+use Rattle.capture.specs.Replay.{Replay, refusedBy, refusedAt, replayed, leftBy, started, replayBy, replayOf}
 use Rattle.capture.specs.Where.{Lent, PartWhen, Small, Replayed, NoFirstLine, StoppedAfter}
 use Rattle.capture.proofs.Courses.{Ended, all-replayed, refused-first, refused-after, ended}
 use Rattle.capture.proofs.Feeds.{feed-refused, feed-passed, feed-append, feed-over, fedResult, text-replayed, fed-end}
 use Rattle.capture.proofs.Refusals.{by-lent, replay-not-lent, part-refusal-when, part-when, none-refused}
-use Rattle.capture.proofs.Written.{capture-played, so-replayed, so-stopped, all-done-fit}
+use Rattle.capture.proofs.Written.{capture-played, so-replayed, so-stopped, all-done-fit, all-done-true}
 
 -- ---- refusals by a number
 
@@ -179,6 +180,33 @@ capture-runs pins es m w two small lent = capture-played m w lent pins es two sm
 -- after a capture that is replayed the record is allowed and the memories have their length
 pub end-fit : (text m w : List ℕ) (end : State) → Replayed text m w end → Fit end
 end-fit text m w end r = all-done-fit (r .pins) (r .events) m w end (r .pins-allowed) (r .lent) (r .done)
+
+-- ---- the pixels by value (document 02, W8)
+
+-- after a capture that is replayed, and where one is refused at a line, the chip's counts are true
+pub end-true : (text m w : List ℕ) (end : State) → Replayed text m w end → TrueCounts end
+end-true text m w end r = all-done-true (r .pins) (r .events) m w end (r .done)
+
+pub stopped-true : (n : ℕ) (text m w : List ℕ) (end : State) → StoppedAfter n text m w end → TrueCounts end
+stopped-true n text m w end r = all-done-true (r .pins) (r .events) m w end (r .done)
+
+-- so they are whatever the text and the memories
+pub leaves-true : (text m w : List ℕ) → TrueCounts (leftBy (replayOf text m w))
+leaves-true text m w = ⊎-elim (λ lent. over (ended m w lent text)) (λ n. rw (replay-not-lent text m w n)) (by-lent m w)
+  where
+    over : Ended text m w → TrueCounts (leftBy (replayOf text m w))
+    over (all-replayed end r q) = rw q (end-true text m w end r)
+    over (refused-first n q) = rw q
+    over (refused-after n end r q) = rw q (stopped-true n text m w end r)
+
+-- and so are those of the chip that an end hands out, which `state` prints: they are the counts of the memory as it is then
+pub whole-true : (c : Chip) (n : ℕ) (m w text m₀ w₀ : List ℕ) → meaning (ends.Whole c n) m w ≡ replayOf text m₀ w₀ → c .pixels ≡ countsOf m
+unfolding meaning
+whole-true c n m w text m₀ w₀ h = subst (λ (r : Replay). TrueCounts (leftBy r)) (sym h) (leaves-true text m₀ w₀)
+
+-- no event of a capture is refused by 16
+pub never-16 : (n : ℕ) (text m w : List ℕ) (end : State) → StoppedAfter n text m w end → (e : ℕ) → refusalOf e end ≡ 16 → ⊥
+never-16 n text m w end r e = true-never-16 e end (stopped-true n text m w end r)
 
 -- ---- the last writer
 

@@ -14,13 +14,14 @@ use Rattle.registers.specs.State.{State, places}
 use Rattle.text.specs.Decimal.{digitValue, isDigit}
 use Rattle.text.specs.Text.{split}
 use Rattle.text.proofs.Numbers.{and-both}
+use Rattle.pixel_counts.proofs.Laws.{counts-allowed}
 use Rattle.chip.specs.Promised.{Fit, runOf}
 use Rattle.chip.proofs.Laws.{run-stays-fit}
 use Rattle.capture_lines.specs.declared.LineSoFar.{LineSoFar}
 use Rattle.capture_lines.specs.declared.LineSoFar.the-variants.{First, Pins, Empty, Number, BadFirst, Bad}
 use Rattle.capture_lines.specs.Line.{newline, word}
 use Rattle.capture_lines.specs.SoFar.{isPins, onWord, takesDigit, withByte, withBytes}
-use Rattle.capture.specs.Feeding.{Playing, playing, lineAfter, endedLine, withNext, bytesFed, lineAllowed, captureAllowed, keptRefusal, partRefusal}
+use Rattle.capture.specs.Feeding.{Playing, playing, kept, startOf, lineAfter, endedLine, withNext, bytesFed, lineAllowed, captureAllowed, keptRefusal, partRefusal}
 use Rattle.capture.specs.Replay.{refusedBy, started, replayLines, replayOf}
 use Rattle.capture.specs.Where.{Lent, Passed, PartWhen}
 
@@ -94,10 +95,20 @@ module _ (p : Playing) where
 
 -- ---- a chip after reset
 
+-- before the first byte
+pub start-passed : (m w : List ℕ) → Lent m w → Passed (kept startOf m w)
+unfolding allowed
+start-passed m w lent =
+    record {
+      fit = record { memory-long = lent .memory-long; writers-long = lent .writers-long; is-allowed = refl };
+      line-allowed = refl;
+    }
+
+-- behind the first line
 pub started-fit : (pins : ℕ) (m w : List ℕ) → pins ≤ 3 → Lent m w → Fit (started pins m w)
 unfolding allowed
 started-fit pins m w two lent =
-    record { memory-long = lent .memory-long; writers-long = lent .writers-long; is-allowed = simp (le-leb pins 3 two) }
+    record { memory-long = lent .memory-long; writers-long = lent .writers-long; is-allowed = simp (le-leb pins 3 two, counts-allowed) }
 
 -- ---- what passes stays so
 

@@ -154,9 +154,16 @@ pub all-first : (p : List ℕ) {l : LineSoFar} → IsFirst l → IsFirst (withBy
 all-first [] i = i
 all-first (b ∷ p) i = all-first p (joined-first b i)
 
-module _ (m w : List ℕ) (lent : Lent m w) where
+-- until then only the memories of what is kept count
+module _ (s : State) (lent : Lent (s .memory) (s .writers)) where
+  abbrev m : List ℕ
+  m = s .memory
+
+  abbrev w : List ℕ
+  w = s .writers
+
   -- the first line without a newline, and with one
-  first-left : {l : LineSoFar} → IsFirst l → resultOf (playing l (started 0 m w)) ≡ refusedAt 1 (started 0 m w)
+  first-left : {l : LineSoFar} → IsFirst l → resultOf (playing l s) ≡ refusedAt 1 (started 0 m w)
   unfolding meaning
   first-left first = refl
   first-left pins = refl
@@ -164,28 +171,28 @@ module _ (m w : List ℕ) (lent : Lent m w) where
 
   first-ended :
       {l : LineSoFar} (bs q : List ℕ) (qs : List (List ℕ)) → IsFirst l → lineAllowed l ≡ true → split newline bs ≡ q ∷ qs
-      → resultOf (bytesFed bs (endedLine l (started 0 m w))) ≡ withPins (pinsIn l) (eventsOf (q ∷ qs)) m w
+      → resultOf (bytesFed bs (endedLine l s)) ≡ withPins (pinsIn l) (eventsOf (q ∷ qs)) m w
   unfolding endedLine
-  first-ended bs q qs first a e = bad-first bs (started 0 m w)
+  first-ended bs q qs first a e = bad-first bs s
   first-ended bs q qs (pins {p}) a e =
       events-fed bs [] (started p m w) (started-fit p m w (leb-true p 3 a) lent) ∙ rw e (from-zero (runOf (eventsOf (q ∷ qs) .events) (started p m w)))
     where
       from-zero : (o : Outcome) → replayBy (moreDone 0 o) (eventsOf (q ∷ qs) .all-good) ≡ replayBy o (eventsOf (q ∷ qs) .all-good)
       from-zero o = ap (λ (n : ℕ). endedBy (o .refusal) (eventsOf (q ∷ qs) .all-good) n (o .state)) (omega arith)
-  first-ended bs q qs bad a e = bad-first bs (started 0 m w)
+  first-ended bs q qs bad a e = bad-first bs s
 
   first-fed :
-      (xs p : List ℕ) → resultOf (bytesFed xs (playing (withBytes (First 0) p) (started 0 m w))) ≡ replayLines (onto p (split newline xs)) m w
+      (xs p : List ℕ) → resultOf (bytesFed xs (playing (withBytes (First 0) p) s)) ≡ replayLines (onto p (split newline xs)) m w
   unfolding bytesFed
   first-fed [] p = first-left (all-first p first)
   first-fed (b ∷ bs) p = go (eqb b newline) (split newline bs) refl (split-some newline bs) (λ q. first-fed bs q)
     where
       go :
           (t : Bool) (qs : List (List ℕ)) → split newline bs ≡ qs → 0 < length qs
-          → ((q : List ℕ) → resultOf (bytesFed bs (playing (withBytes (First 0) q) (started 0 m w))) ≡ replayLines (onto q qs) m w)
+          → ((q : List ℕ) → resultOf (bytesFed bs (playing (withBytes (First 0) q) s)) ≡ replayLines (onto q qs) m w)
           → resultOf
           (bytesFed bs
-          (cond t (endedLine (withBytes (First 0) p) (started 0 m w)) (playing (withByte (withBytes (First 0) p) b) (started 0 m w))))
+          (cond t (endedLine (withBytes (First 0) p) s) (playing (withByte (withBytes (First 0) p) b) s)))
           ≡ replayLines (onto p (cond t ([] ∷ qs) (onFirst b qs))) m w
       go t [] e l h = absurd (omega arith)
       go true (q ∷ qs) e l h =
@@ -193,7 +200,7 @@ module _ (m w : List ℕ) (lent : Lent m w) where
       go false (q ∷ qs) e l h =
           rw (← with-bytes-one (First 0) p b) (h (p ++ b ∷ []) ∙ ap (λ (l : List ℕ). replayLines (l ∷ qs) m w) (append-snoc p b q))
 
-  pub text-fed : (text : List ℕ) → resultOf (bytesFed text (playing (First 0) (started 0 m w))) ≡ replayLines (split newline text) m w
+  pub text-fed : (text : List ℕ) → resultOf (bytesFed text (playing (First 0) s)) ≡ replayLines (split newline text) m w
   text-fed text = first-fed text [] ∙ go (split newline text) (split-some newline text)
     where
       go : (qs : List (List ℕ)) → 0 < length qs → replayLines (onto [] qs) m w ≡ replayLines qs m w

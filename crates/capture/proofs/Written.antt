@@ -17,9 +17,9 @@ use Rattle.text.proofs.Finding.{same-equal}
 use Rattle.text.proofs.Printing.{printed, read-back, decimal-free}
 use Rattle.text.proofs.Splitting.{split-some}
 use Rattle.text.proofs.Joining.{split-append, split-join}
-use Rattle.chip.specs.Promised.{Fit, Outcome, runOf, refusalOf}
+use Rattle.chip.specs.Promised.{Fit, TrueCounts, Outcome, runOf, refusalOf}
 use Rattle.chip.specs.RunOn.{thenRun}
-use Rattle.chip.proofs.Laws.{run-stays-fit}
+use Rattle.chip.proofs.Laws.{run-stays-fit, run-stays-true}
 use Rattle.chip.proofs.RunOn.{run-then, run-stopped}
 use Rattle.capture_lines.specs.Line.{newline, word, asPins, pinsOf}
 use Rattle.capture.specs.Reading.{EventsRead, eventsRead, withEvent, eventsOf, firstLine, eventLines, captureThen, captureText}
@@ -148,6 +148,9 @@ stop-read rest s fit (refused-event e more small r t) n = rw (t, events-event e 
 pub all-done-fit : (pins : ℕ) (es m w : List ℕ) (end : State) → pins ≤ 3 → Lent m w → AllDone es (started pins m w) end → Fit end
 all-done-fit pins es m w end two lent done =
     subst (λ (o : Outcome). Fit (o .state)) done (run-stays-fit es (started pins m w) (started-fit pins m w two lent))
+
+pub all-done-true : (pins : ℕ) (es m w : List ℕ) (end : State) → AllDone es (started pins m w) end → TrueCounts end
+all-done-true pins es m w end done = subst (λ (o : Outcome). TrueCounts (o .state)) done (run-stays-true es (started pins m w) refl)
 
 pub so-stopped : (n : ℕ) (text m w : List ℕ) (end : State) → StoppedAfter n text m w end → replayOf text m w ≡ refusedAt (n + 2) end
 so-stopped n text m w end r =

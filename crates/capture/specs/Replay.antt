@@ -1,15 +1,15 @@
--- A whole capture played on a chip after reset. The two memories are lent; a capture starts with 1,717 zeros in each.
+-- A whole capture played on a chip after reset, from a counting start. The two memories are lent; a capture starts with 1,717 zeros in each.
 use mathlib.Core.Bool.{Bool, true, false}
 use mathlib.Core.List.{List, [], _∷_}
 use Prim.Native.Nat.{ℕ, zero, suc, _+_}
 use lib.ListN.{length}
-use Rattle.registers.specs.Record.{resetChip}
+use Rattle.registers.specs.Record.{resetChip, withPixels}
 use Rattle.registers.specs.Refusals.{lengthsRefusal}
 use Rattle.registers.specs.State.{State, state}
 use Rattle.text.specs.declared.Number.{Number}
 use Rattle.text.specs.declared.Number.the-variants.{Value, Malformed}
 use Rattle.text.specs.Text.{split}
-use Rattle.chip.specs.Promised.{Outcome, runOf}
+use Rattle.chip.specs.Promised.{Outcome, runOf, countsOf}
 use Rattle.capture_lines.specs.Line.{newline, pinsOf}
 use Rattle.capture.specs.Reading.{EventsRead, eventsOf}
 
@@ -20,9 +20,15 @@ pub data Replay : Type 0 where
   refusedAt : (line : ℕ) → State → Replay
   replayed : State → Replay
 
--- reset values, idle, count 0
+-- the chip, the memories and the count that it leaves
+abbrev pub leftBy : Replay → State
+leftBy (refusedBy k s) = s
+leftBy (refusedAt n s) = s
+leftBy (replayed s) = s
+
+-- reset values, idle, the pixels of the memory by value, count 0
 abbrev pub started : ℕ → List ℕ → List ℕ → State
-started pins m w = state (resetChip pins) m w 0
+started pins m w = state (withPixels (resetChip pins) (countsOf m)) m w 0
 
 -- the run over the events was stopped by a refusal or not, and no bad line follows them or one does. The first event stands in line 2
 abbrev pub endedBy : ℕ → Bool → ℕ → State → Replay

@@ -49,7 +49,7 @@ pub fn end_line(
             line: LineSoFar::BadFirst,
         },
         LineSoFar::Pins(pins) => Capture {
-            chip: Chip::reset(pins),
+            chip: Chip::reset(pins).with_pixels(pixel_counts::of_memory(memory)),
             count: 0,
             line: LineSoFar::Empty,
         },

@@ -14,6 +14,12 @@ enum-known-line c = search needs
 reset-requires : tie.Need-reset-requires
 reset-requires c κs = search needs
 
+of-memory-requires : tie.Need-of-memory-requires
+of-memory-requires c κs = search needs
+
+with-pixels-requires : tie.Need-with-pixels-requires
+with-pixels-requires c κs = search needs
+
 enum-told-2 : tie.Need-enum-told-2
 enum-told-2 c = search needs
 
@@ -33,24 +39,28 @@ returns : tie.Need-returns
 unfolding endedLine
 returns c = ended-known _ _ (c .enum-told .given .1) _ _ refl
 
+same-length : tie.Need-same-length
+same-length c = search needs
+
 returns-2 : tie.Need-returns-2
 unfolding endedLine
-returns-2 c = ended-known _ _ (c .before .before .line .given .1) _ _ (simp (c .reset .ensures))
+returns-2 c =
+    let reset = c .before .before .before in
+    ended-known _ _ (reset .before .before .line .given .1) _ _ (simp (c .with-pixels .ensures, c .before .of-memory .ensures, reset .reset .ensures))
 
 returns-3 : tie.Need-returns-3
 unfolding endedLine
 returns-3 c = ended-known _ _ (c .enum-told2 .given .1) _ _ refl
 
-same-length : tie.Need-same-length
-same-length c = search needs
-
 same-length-2 : tie.Need-same-length-2
 same-length-2 c = search needs
 
+same-length-3 : tie.Need-same-length-3
+same-length-3 c = search needs
+
 returns-4 : tie.Need-returns-4
 unfolding endedLine
-returns-4 c =
-    let played = c .before .before .before .before in
+returns-4 c = let played = c .before .before .before .before in
     ended-known _ _ (played .before .before .before .before .line2 .given .1) _ _ (played .play .ensures)
 
 returns-5 : tie.Need-returns-5
@@ -68,16 +78,19 @@ end-line-spec =
     enum-told
     enum-known-line
     reset-requires
+    of-memory-requires
+    with-pixels-requires
     enum-told-2
     enum-known-line-2
     play-requires
     enum-told-3
     enum-told-4
     returns
+    same-length
     returns-2
     returns-3
-    same-length
     same-length-2
+    same-length-3
     returns-4
     returns-5
     returns-6)
