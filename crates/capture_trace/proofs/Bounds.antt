@@ -21,8 +21,8 @@ use Rattle.engine.specs.Step.{acknowledge, onByte, applied, counted, accepted}
 use Rattle.chip.specs.Promised.{After, refusalOf, stepOf}
 use Rattle.chip.specs.RunOn.{ranOne}
 use Rattle.chip.specs.When.{ListedEvent}
-use Rattle.chip.proofs.Laws.{exactly-when, refused, count-law}
-use Rattle.chip.proofs.Refusals.{accepted-step}
+use Rattle.chip.proofs.Laws.{refused, count-law}
+use Rattle.chip.proofs.Refusals.{accepted-step, accepted-when}
 use Rattle.chip.proofs.RunOn.{run-one}
 use Rattle.capture_lines.specs.declared.LineSoFar.{LineSoFar}
 use Rattle.capture_lines.specs.declared.LineSoFar.the-variants.{First, Pins, Empty, Number, BadFirst, Bad}
@@ -118,16 +118,16 @@ module _ (e : ℕ) (s : State) (done : refusalOf e s ≡ 0) (sized : Sized s) wh
 
   line-bound : length (lineFor (doneEvent e s)) ≤ 74
   line-bound =
-      let passed = exactly-when e s 0 .0 done in
-      event-line-bound e (s .chip) (s .count) (stepOf e s .answer) (listed-short (passed .1)) (sized .count)
-      (allowed-registers (s .chip) (passed .0 .is-allowed))
+      let passed = accepted-when e s done in
+      event-line-bound e (s .chip) (s .count) (stepOf e s .answer) (listed-short (passed .listed)) (sized .count)
+      (allowed-registers (s .chip) (passed .fit .is-allowed))
       (subst (λ (a : After). ShortAnswer (a .answer)) (sym (accepted-step e s done)) answered)
 
   stays-sized : Sized (stepOf e s .state)
   stays-sized =
       record {
         status = subst (λ (a : After). a .state .chip .status < 256) (sym (accepted-step e s done)) held;
-        count = omega (arith, count-law e s done, exactly-when e s 0 .0 done .2, sized .count);
+        count = omega (arith, count-law e s done, accepted-when e s done .room, sized .count);
       }
 
 -- ---- the bytes of a part

@@ -21,7 +21,8 @@ use Rattle.engine.specs.declared.event.Event.{Event}
 use Rattle.engine.proofs.Events.{byte-event}
 use Rattle.chip.specs.Phases.{awaitsData}
 use Rattle.chip.specs.Promised.{After, refusalOf}
-use Rattle.chip.proofs.Laws.{exactly-when, display-law}
+use Rattle.chip.proofs.Laws.{display-law}
+use Rattle.chip.proofs.Refusals.{accepted-when}
 use Rattle.event_words.specs.Words.{displayWords, byteWords, eventWords, whatOf}
 use Rattle.capture_trace.specs.Told.{DisplayTold}
 
@@ -51,7 +52,7 @@ pub told : (b : ℕ) (s : State) → b < 256 → awaitsData (s .chip .phase) ≡
 unfolding displayWords columnOf placeOf
 told b s byte t h =
     let r : Registers = s .chip .registers in
-    let fit = exactly-when b s 0 .0 h .0 in
+    let fit = accepted-when b s h .fit in
     let ok = allowed-registers (s .chip) (fit .is-allowed) in
     let there = place-bound r ok in
     let law = display-law s b byte h t in

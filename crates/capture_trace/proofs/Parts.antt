@@ -4,7 +4,6 @@ use mathlib.Core.List.{List, [], _∷_, _++_, append-assoc}
 use mathlib.Core.Logic.{⊎-elim}
 use mathlib.Core.Path.{_≡_, refl, sym, ap, _∙_}
 use Prim.Native.Nat.{ℕ, zero, suc}
-use native.Mathlib.Omega.{arith}
 use lib.ListN.{length}
 use Rattle.registers.specs.Refusals.{lengthsRefusal}
 use Rattle.print.specs.Chosen.{linesOf}
@@ -13,7 +12,7 @@ use Rattle.capture_lines.specs.Line.{newline}
 use Rattle.capture.specs.Feeding.{Playing, kept, startOf, bytesFed, partRefusal, PartFed, feedOf, allParts}
 use Rattle.capture.specs.Where.{Lent, Passed}
 use Rattle.capture.proofs.Feeds.{feed-passed, feed-refused}
-use Rattle.capture.proofs.Refusals.{by-lent, lent-passes, not-lent, part-when, none-refused, started-fit, stays-passed}
+use Rattle.capture.proofs.Refusals.{by-lent, lent-passes, not-lent, part-when, none-refused, start-passed, stays-passed}
 use Rattle.capture_trace.specs.declared.tally.Tally.{Tally}
 use Rattle.capture_trace.specs.Done.{DoneEvent, doneUnless, doneAtByte, doneLines, doneInBytes, doneInPart, doneOf}
 use Rattle.capture_trace.specs.Follow.{lineFor, talliedOver}
@@ -91,8 +90,8 @@ whole-done text m w = ⊎-elim right wrong (by-lent m w)
 
     right : Lent m w → doneInPart text (kept startOf m w) ≡ doneUnless (lengthsRefusal (length m) (length w)) lines
     right lent =
-        done-passed text (kept startOf m w) (record { fit = started-fit 0 m w (omega arith) lent; line-allowed = refl })
-        ∙ text-done m w text
+        done-passed text (kept startOf m w) (start-passed m w lent)
+        ∙ text-done (kept startOf m w .state) text
         ∙ ap (λ (k : ℕ). doneUnless k lines) (sym (lent-passes m w lent))
 
     wrong : (Lent m w → ⊥) → doneInPart text (kept startOf m w) ≡ doneUnless (lengthsRefusal (length m) (length w)) lines

@@ -9,7 +9,8 @@ use lib.ListN.{length}
 use Rattle.registers.specs.State.{State}
 use Rattle.chip.specs.Promised.{Answer, Refused, Nothing, Acknowledged, NotAcknowledged, Command, Read, refusalOf, stepOf}
 use Rattle.engine.specs.Event.{isAcknowledged}
-use Rattle.chip.proofs.Laws.{exactly-when, count-law}
+use Rattle.chip.proofs.Laws.{count-law}
+use Rattle.chip.proofs.Refusals.{accepted-when}
 use Rattle.capture_trace.specs.Done.{DoneEvent, doneEvent, doneUnless, doneEvents}
 use Rattle.capture_trace.specs.Follow.{answerTo, tally, noneTallied, oneMore, tallied, talliedOver}
 use Rattle.capture_trace.specs.Told.{isNotAcknowledged, howMany}
@@ -67,7 +68,7 @@ room (e ∷ es) s h = go (refusalOf e s) refl (λ r. room es (stepOf e s .state)
         (k : ℕ) → refusalOf e s ≡ k → (next .count ≤ 2 ^ 64 - 1 → next .count + length (doneEvents es next) ≤ 2 ^ 64 - 1)
         → s .count + length (doneUnless k (doneEvent e s ∷ doneEvents es (stepOf e s .state))) ≤ 2 ^ 64 - 1
     go zero q rest =
-        let below : s .count < 2 ^ 64 - 1 = omega (arith, exactly-when e s 0 .0 q .2) in
+        let below : s .count < 2 ^ 64 - 1 = omega (arith, accepted-when e s q .room) in
         omega (arith, rest (omega (arith, count-law e s q)), count-law e s q)
     go (suc k) q rest = omega arith
 

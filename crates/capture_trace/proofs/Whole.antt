@@ -106,33 +106,40 @@ events-done (b ∷ bs) p s = go (eqb b newline) (split newline bs) (split-some n
 
 -- ---- the first line
 
-module _ (m w : List ℕ) where
+-- until then only the memories of what is kept count
+module _ (s : State) where
+  abbrev m : List ℕ
+  m = s .memory
+
+  abbrev w : List ℕ
+  w = s .writers
+
   first-ended :
       {l : LineSoFar} (bs q : List ℕ) (qs : List (List ℕ)) → IsFirst l → split newline bs ≡ q ∷ qs
-      → doneAtEnd l (started 0 m w) ++ doneInBytes bs (endedLine l (started 0 m w)) ≡ doneWithPins (pinsIn l) (eventsOf (q ∷ qs)) m w
+      → doneAtEnd l s ++ doneInBytes bs (endedLine l s) ≡ doneWithPins (pinsIn l) (eventsOf (q ∷ qs)) m w
   unfolding endedLine
-  first-ended bs q qs first e = stuck-first bs (started 0 m w)
+  first-ended bs q qs first e = stuck-first bs s
   first-ended bs q qs (pins {p}) e = events-done bs [] (started p m w) ∙ rw e
-  first-ended bs q qs bad e = stuck-first bs (started 0 m w)
+  first-ended bs q qs bad e = stuck-first bs s
 
   first-done :
-      (xs p : List ℕ) → doneInBytes xs (playing (withBytes (First 0) p) (started 0 m w)) ≡ doneLines (onto p (split newline xs)) m w
+      (xs p : List ℕ) → doneInBytes xs (playing (withBytes (First 0) p) s) ≡ doneLines (onto p (split newline xs)) m w
   unfolding doneInBytes
   first-done [] p = refl
   first-done (b ∷ bs) p = go (eqb b newline) (split newline bs) refl (split-some newline bs) (λ q. first-done bs q)
     where
       go :
           (t : Bool) (qs : List (List ℕ)) → split newline bs ≡ qs → 0 < length qs
-          → ((q : List ℕ) → doneInBytes bs (playing (withBytes (First 0) q) (started 0 m w)) ≡ doneLines (onto q qs) m w)
-          → cond t (doneAtEnd (withBytes (First 0) p) (started 0 m w)) []
-          ++ doneInBytes bs (cond t (endedLine (withBytes (First 0) p) (started 0 m w)) (playing (withByte (withBytes (First 0) p) b) (started 0 m w)))
+          → ((q : List ℕ) → doneInBytes bs (playing (withBytes (First 0) q) s) ≡ doneLines (onto q qs) m w)
+          → cond t (doneAtEnd (withBytes (First 0) p) s) []
+          ++ doneInBytes bs (cond t (endedLine (withBytes (First 0) p) s) (playing (withByte (withBytes (First 0) p) b) s))
           ≡ doneLines (onto p (cond t ([] ∷ qs) (onFirst b qs))) m w
       go t [] e l h = absurd (omega arith)
       go true (q ∷ qs) e l h = first-ended bs q qs (all-first p first) e ∙ rw (first-line p, append-nil p)
       go false (q ∷ qs) e l h =
           rw (← with-bytes-one (First 0) p b) (h (p ++ b ∷ []) ∙ ap (λ (l : List ℕ). doneLines (l ∷ qs) m w) (append-snoc p b q))
 
-  pub text-done : (text : List ℕ) → doneInBytes text (playing (First 0) (started 0 m w)) ≡ doneLines (split newline text) m w
+  pub text-done : (text : List ℕ) → doneInBytes text (playing (First 0) s) ≡ doneLines (split newline text) m w
   text-done text = first-done text [] ∙ go (split newline text) (split-some newline text)
     where
       go : (qs : List (List ℕ)) → 0 < length qs → doneLines (onto [] qs) m w ≡ doneLines qs m w
