@@ -6,6 +6,7 @@ pub mod Observed
 pub mod Chips
 pub mod Glasses
 pub mod Pulses
+pub mod Start
 pub mod Calls
 pub mod Wires
 pub mod Answers

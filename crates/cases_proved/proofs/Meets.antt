@@ -7,10 +7,10 @@ use lib.Dec.{T, T-not, eqb, ltb, eqb→eq, eqb-refl, ltb→lt, lt→ltb}
 use lib.ListN.{getD, length}
 use Rattle.registers.proofs.Below.{and-left, and-right}
 use Rattle.text.proofs.Finding.{same-equal}
-use Rattle.chip.proofs.Plays.{plays-good, plays-run}
+use Rattle.chip.proofs.Plays.{plays-good, plays-run, played-true}
 use Rattle.chip.proofs.Tallies.{plays-tally}
 use Rattle.cases_proved.specs.Cited.{Line, State, values, ofValues, Picture, pictureOf, plainReading, Demand3}
-use Rattle.cases_proved.specs.Cited.{Fit, isAcknowledged, refusalOf, stepOf}
+use Rattle.cases_proved.specs.Cited.{Fit, TrueCounts, isAcknowledged, refusalOf, stepOf}
 use Rattle.cases_proved.specs.Cited.{before, played, Good, Plays, sameBytes, awaitsCommand}
 use Rattle.cases_proved.specs.Cited.{Answer, Refused, Nothing, Acknowledged, NotAcknowledged, Command, Read, Taken, Unknown, OutOfRange}
 
@@ -122,8 +122,8 @@ picture-is p q t =
     let fields = same-equal (values (p .registers)) (values (q .registers)) (is-true _ (and-right (sameBytes (p .cells) (q .cells)) _ t)) in
     λ i. record { cells = cells i; registers = ofValues (fields i) }
 
-pub meets-is : (ls : List Line) (es : List ℕ) (s : State) → Fit s → T (meets ls es s) → Demand3 ls es s
-meets-is ls es s fit t =
+pub meets-is : (ls : List Line) (es : List ℕ) (s : State) → Fit s → TrueCounts s → T (meets ls es s) → Demand3 ls es s
+meets-is ls es s fit counted t =
     let plays = plays-is es s (and-left (allGood es s) _ t) in
     record {
       all-good = plays-good es _ s plays;
@@ -131,4 +131,5 @@ meets-is ls es s fit t =
       same-run = plays-run es _ s fit plays;
       none-unknown = plays-tally Unknown refl es _ s plays;
       none-out-of-range = plays-tally OutOfRange refl es _ s plays;
+      true-counts = played-true es s counted;
     }

@@ -8,6 +8,7 @@ use lib.Dec.{T, T-not, ltb, ltb→lt}
 use lib.ListN.{length, take}
 use Rattle.registers.proofs.Below.{and-left, and-right}
 use Rattle.cases_proved.specs.Cited.{Line, Reading, faulty, lines, linesOf, bytes, sameBytes, blank, Fit, Demand3, Draws}
+use Rattle.cases_proved.specs.Cited.{pixelRefusal, pixelsFit, pixelsAfter, mendable, mended, shown, pixelTally}
 use Rattle.cases_proved.specs.Cited.{allowed, rowAt, commandOf, answerTo, storedOf, placeOf, nextAddress, refusalOf, applied, accepted, stepOf}
 use Rattle.cases_proved.specs.Cited.{entryRefusal, eventRefusal, isAddressed, phaseAfterAddress, phaseAfterLastRead, acknowledge}
 use Rattle.cases_proved.specs.Cited.{isAcknowledged, controlled, readByte, pulsed, sensed, columnOf}
@@ -16,6 +17,7 @@ use Rattle.cases_proved.specs.Start.{zeros}
 use Rattle.cases_proved.specs.Table.{EachRow, eachPasses}
 use Rattle.cases_proved.specs.Streams.{Output, start, linesIn, Wrong, Other, wrongOutputs, otherOutputs}
 use Rattle.cases_proved.proofs.Meets.{meets, meets-holds, meets-is, not-same, is-true}
+use Rattle.cases_proved.proofs.Start.{upon-true}
 use Rattle.cases_proved.proofs.Table.{each-row}
 
 -- ---- the tests
@@ -64,7 +66,7 @@ module _ (o : Output) (t : T (isAccepted o)) where
   draws-met : Draws (start o .chip) (bytes (o .text)) (length (o .events)) (o .events) → Demand3 (linesIn o) (o .events) (start o)
   draws-met d =
       subst (λ (ls : List Line). Demand3 ls (o .events) (start o)) (sym (ap linesOf (d .reads)))
-      (subst (λ (es : List ℕ). Demand3 (d .list) es (start o)) (take-all (o .events)) (d .plays zeros zeros 0 fit (omega (arith, room))))
+      (subst (λ (es : List ℕ). Demand3 (d .list) es (start o)) (take-all (o .events)) (d .plays zeros zeros 0 fit (upon-true (o .before)) (omega (arith, room))))
     where
       take-all : (es : List ℕ) → take (length es) es ≡ es
       take-all [] = refl
@@ -84,7 +86,7 @@ other-row o t =
     let rest = and-right (isAccepted o) _ t in
     record {
       reads = reading o accepted;
-      met = meets-is (linesIn o) (o .events) (start o) (fit o accepted) (and-left (isMet o) _ rest);
+      met = meets-is (linesIn o) (o .events) (start o) (fit o accepted) (upon-true (o .before)) (and-left (isMet o) _ rest);
       not-the-stream = not-same (rightEvents o) (o .events) (and-right (isMet o) _ rest);
     }
 
@@ -93,14 +95,14 @@ other-row o t =
 all-wrong : T (eachPasses isWrong wrongOutputs)
 unfolding wrongOutputs
     stepOf refusalOf accepted applied allowed commandOf answerTo rowAt storedOf placeOf nextAddress
-    entryRefusal eventRefusal isAddressed phaseAfterAddress phaseAfterLastRead acknowledge isAcknowledged controlled readByte pulsed sensed columnOf
+    entryRefusal eventRefusal pixelRefusal pixelsFit pixelsAfter mendable mended shown pixelTally isAddressed phaseAfterAddress phaseAfterLastRead acknowledge isAcknowledged controlled readByte pulsed sensed columnOf
     readingOf readingFrom lineOf numberOf setTo filled
 all-wrong = tt
 
 all-other : T (eachPasses isOther otherOutputs)
 unfolding otherOutputs
     stepOf refusalOf accepted applied allowed commandOf answerTo rowAt storedOf placeOf nextAddress
-    entryRefusal eventRefusal isAddressed phaseAfterAddress phaseAfterLastRead acknowledge isAcknowledged controlled readByte pulsed sensed columnOf
+    entryRefusal eventRefusal pixelRefusal pixelsFit pixelsAfter mendable mended shown pixelTally isAddressed phaseAfterAddress phaseAfterLastRead acknowledge isAcknowledged controlled readByte pulsed sensed columnOf
     readingOf readingFrom lineOf numberOf setTo filled stream lineEvents
 all-other = tt
 

@@ -2,7 +2,7 @@
 use mathlib.Core.Bool.{cond}
 use mathlib.Core.List.{List, [], _∷_}
 use Prim.Native.Nat.{ℕ, _+_, _*_}
-use Rattle.cases_proved.specs.Cited.{getD, values, State, Answer, After, answerNumber, stepOf, Outcome, runOf, lastAnswer, tally, Unknown, OutOfRange}
+use Rattle.cases_proved.specs.Cited.{getD, values, countFor, State, Answer, After, answerNumber, stepOf, Outcome, runOf, lastAnswer, tally, Unknown, OutOfRange}
 
 -- ---- a chip, and what can be seen of it
 
@@ -35,6 +35,10 @@ cell column bank s = getD (s .memory) (101 * bank + column) 0
 
 abbrev pub writer : ℕ → ℕ → State → ℕ
 writer column bank s = getD (s .writers) (101 * bank + column) 0
+
+-- how many pixels have value v
+abbrev pub pixels : ℕ → State → ℕ
+pixels v s = countFor (s .chip .pixels) v
 
 -- the events one by one
 abbrev pub stepped : (ℕ → State → After) → List ℕ → State → State

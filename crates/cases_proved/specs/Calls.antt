@@ -3,8 +3,8 @@ use mathlib.Core.Bool.{true, false}
 use mathlib.Core.List.{List, [], _∷_}
 use Prim.Native.Nat.{ℕ, _+_, _-_, _^_}
 use Prim.Native.String.{String}
-use Rattle.cases_proved.specs.Cited.{PD, X, PINS, PHASE, replicate, getD, bytes, EndlessBytes, inPhase, wordsOf, Reset, resetCall, Stepped, stepCall, Ran, runCall}
-use Rattle.cases_proved.specs.Cited.{glassCall, placeCall, PulseRow, pulsesCall, pulseRowCall, Compiled, compileCall}
+use Rattle.cases_proved.specs.Cited.{PD, X, PINS, PHASE, PIXELS, replicate, getD, set, bytes, EndlessBytes, inPhase, wordsOf, Reset, resetCall, Stepped, stepCall, Ran, runCall}
+use Rattle.cases_proved.specs.Cited.{glassCall, placeCall, PulseRow, pulsesCall, pulseRowCall, Compiled, compileCall, Counts, countsCall}
 use Rattle.cases_proved.specs.Behaviour.{START, nothing, acknowledged, commandTaken, commandUnknown, commandOutOfRange, commands}
 use Rattle.cases_proved.specs.Observed.{Observation, _gives_not_}
 use Rattle.cases_proved.specs.Start.{Setting, _is_, zeros, oneCell, viewed}
@@ -23,6 +23,7 @@ pub record Calls : Type 0 where
   pub pulses : ℕ → ℕ → List ℕ → List ℕ → ℕ
   pub pulseRow : ℕ → List ℕ → List ℕ → List ℕ → PulseRow
   pub compile : List ℕ → List ℕ → List ℕ → Compiled
+  pub counts : List ℕ → Counts
 
 unfoldable pub calls : Calls
 calls =
@@ -35,6 +36,7 @@ calls =
       pulses = pulsesCall;
       pulseRow = pulseRowCall;
       compile = compileCall;
+      counts = countsCall;
     }
 
 -- the words of a chip after reset with these registers set, its grey registers 40 to 43; and too few words for a record, all 0
@@ -42,7 +44,7 @@ abbrev pub words : List Setting → List ℕ
 words before = wordsOf (viewed before)
 
 abbrev pub noWords : List ℕ
-noWords = replicate 33 0
+noWords = replicate 37 0
 
 -- the words of the same chip while it awaits commands
 abbrev pub awaiting : List Setting → List ℕ
@@ -69,6 +71,10 @@ stepNumber e ws m w c = c .step e ws m w 0 .number
 
 abbrev pub stepWord : ℕ → List ℕ → ℕ → Calls → ℕ
 stepWord e ws k c = getD (c .step e ws zeros zeros 0 .words) k 0
+
+-- a step that has these words with a count of pixels exchanged for another: the number given back
+abbrev pub stepHaving : ℕ → List ℕ → ℕ → ℕ → Calls → ℕ
+stepHaving e ws v n c = stepNumber e (set ws (PIXELS + v) n) zeros zeros c
 
 -- and from a count of n: the number given back, the count, and the writer at place k
 abbrev pub stepFrom : ℕ → ℕ → List ℕ → Calls → ℕ
@@ -126,14 +132,18 @@ aPut = "put\t5\t2\t167\n"
 unfoldable pub callRows : List (Observation Calls)
 callRows =
     -- pins above 3, and a buffer of another length, let pass; pins 3 refused
-    resetNumber 4 34 gives 2 not 0
-    ∷ resetNumber 0 33 gives 2 not 0
-    ∷ resetNumber 0 35 gives 2 not 0
-    ∷ resetNumber 3 34 gives 0 not 2
+    resetNumber 4 38 gives 2 not 0
+    ∷ resetNumber 0 37 gives 2 not 0
+    ∷ resetNumber 0 39 gives 2 not 0
+    ∷ resetNumber 3 38 gives 0 not 2
     -- nothing written, and written by a refused call; other pins
-    ∷ resetWord 3 34 PD gives 1 not 77
-    ∷ resetWord 4 34 PD gives 77 not 1
-    ∷ resetWord 3 34 PINS gives 3 not 0
+    ∷ resetWord 3 38 PD gives 1 not 77
+    ∷ resetWord 4 38 PD gives 77 not 1
+    ∷ resetWord 3 38 PINS gives 3 not 0
+    -- the pixels of a memory that is cleared: all of value 0, none of another; a record of 34 words
+    ∷ resetWord 3 38 PIXELS gives 6767 not 0
+    ∷ resetWord 3 38 (PIXELS + 3) gives 0 not 77
+    ∷ resetNumber 0 34 gives 2 not 0
     -- ---- the answer as another number; the record not written back
     ∷ stepNumber START (words []) zeros zeros gives nothing not 0
     ∷ stepWord START (words []) PHASE gives 1 not 0
@@ -159,6 +169,19 @@ callRows =
     ∷ stepNumber START noWords short zeros gives 1 not 2
     ∷ stepNumber START noWords zeros short gives 1 not 2
     ∷ stepNumber 261 noWords zeros zeros gives 2 not 3
+    -- the counts of pixels not mended in the words, or in another order; a count above all pixels let pass; 16 let pass, and given for 2
+    ∷ stepWord 0xE4 (awaitingData []) PIXELS gives 6764 not 6767
+    ∷ stepWord 0x15 (awaitingData []) (PIXELS + 1) gives 3 not 0
+    ∷ stepHaving START (words []) 3 6768 gives 2 not nothing
+    ∷ stepHaving 0xFF (awaitingData []) 0 3 gives 16 not acknowledged
+    ∷ stepHaving 0xFF (awaitingData []) 0 6768 gives 2 not 16
+    -- ---- a counting start: bank 16 with four rows, or left out; two values exchanged; a memory of another length let pass, and its numbers not set
+    ∷ (λ c. c .counts zeros .zeros) gives 6767 not 6868
+    ∷ (λ c. c .counts (set zeros 1616 0xFF) .threes) gives 3 not 4
+    ∷ (λ c. c .counts (set zeros 1616 0xFF) .threes) gives 3 not 0
+    ∷ (λ c. c .counts oneCell .ones) gives 1 not 2
+    ∷ (λ c. c .counts short .number) gives 1 not 0
+    ∷ (λ c. c .counts short .zeros) gives 0 not 6763
     -- ---- how many events were done: the first alone, one more at a refused event, one at a refused entry
     ∷ runDone (START ∷ 0x78 ∷ []) (words []) gives 2 not 1
     ∷ runDone (START ∷ 261 ∷ []) (words []) gives 1 not 2

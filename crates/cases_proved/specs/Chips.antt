@@ -8,6 +8,7 @@ use Rattle.cases_proved.specs.Behaviour.{runRefusal, runAnswer, runUnkno
 use Rattle.cases_proved.specs.Behaviour.{START, STOP, READ, READLAST, RESET, sensor, nothing, acknowledged, notAcknowledged, byteRead, commands}
 use Rattle.cases_proved.specs.Behaviour.{displayBytes}
 use Rattle.cases_proved.specs.Observed.{Observation, _gives_not_}
+use Rattle.cases_proved.specs.Pixels.{pixelCounts}
 use Rattle.cases_proved.specs.Start.{_is_, upon, counting, lent, withPins}
 
 unfoldable pub busEvents : List (Observation Behaviour)
@@ -268,4 +269,4 @@ refusalsAndRuns =
 
 -- all of them
 unfoldable pub chipRows : List (Observation Behaviour)
-chipRows = busEvents ++ commandBytes ++ commandAnswers ++ displayData ++ refusalsAndRuns
+chipRows = busEvents ++ commandBytes ++ commandAnswers ++ displayData ++ pixelCounts ++ refusalsAndRuns

@@ -2,14 +2,16 @@
 pub use lib.ListN.{getD, length, set, replicate, take}
 pub use Rattle.registers.specs.declared.Registers.{Registers}
 pub use Rattle.registers.specs.declared.Chip.{Chip}
+pub use Rattle.registers.specs.declared.PixelCounts.{PixelCounts}
 pub use Rattle.registers.specs.declared.Phase.the-variants.{EndlessBytes}
 pub use Rattle.commands.specs.declared.answer.CommandAnswer.the-variants.{Taken, Unknown, OutOfRange}
 pub use Rattle.registers.specs.Places.{H, DO, PD, «V», D, E, MX, MY, PS, X, Y, DP, SM, GR, GS0, GS1, GS2, GS3, DOF, DM, EC, OC}
-pub use Rattle.registers.specs.Record.{values, ofValues, put, blank, resetRegisters, resetChip, inPhase, withRegisters}
+pub use Rattle.registers.specs.Record.{values, ofValues, put, blank, resetRegisters, resetChip, inPhase, withRegisters, withPixels, countFor}
 pub use Rattle.registers.specs.State.{State, state, places}
 pub use Rattle.engine.specs.declared.answer.Answer.{Answer}
 pub use Rattle.engine.specs.declared.answer.Answer.the-variants.{Refused, Nothing, Acknowledged, NotAcknowledged, Command, Read}
 pub use Rattle.engine.specs.Event.{numberOf as answerNumber}
+pub use Rattle.pixel_counts.specs.Counts.{TrueCounts}
 pub use Rattle.engine.specs.Step.{After, Fit}
 pub use Rattle.engine.specs.Run.{Outcome}
 pub use Rattle.chip.specs.LastWriter.{before}
@@ -33,19 +35,22 @@ pub use Rattle.pulses.specs.declared.answer.Pulses.{Pulses}
 pub use Rattle.pulses.specs.Answer.{pulsesNumber}
 pub use Rattle.pulses.specs.Pulse.{pulsesOf}
 pub use Rattle.pulses.specs.Row.{PulseRow}
-pub use Rattle.record_words.specs.Words.{PINS, PHASE}
+pub use Rattle.record_words.specs.Words.{PINS, PHASE, PIXELS}
 pub use Rattle.wire_words.specs.Words.{UNCLEAR, LAST, STAGE, BITS, VALUE}
 pub use Rattle.wire_words.specs.Calls.{Started, Called}
 pub use Rattle.host.specs.Calls.{Reset, Stepped, Ran}
 pub use Rattle.host.specs.Compiling.{Compiled}
+pub use Rattle.host.specs.Counting.{Counts}
 -- these are opened where a case is computed
 unfoldable pub use Rattle.registers.specs.Record.{allowed}
 unfoldable pub use Rattle.registers.specs.Table.{rowAt}
 unfoldable pub use Rattle.commands.specs.Command.{commandOf, answerTo}
-unfoldable pub use Rattle.display.specs.Display.{storedOf, columnOf, placeOf, nextAddress}
+unfoldable pub use Rattle.pixel_counts.specs.Counts.{inRow, inRows, countOf, countsOf, countingStart}
+unfoldable pub use Rattle.pixel_counts.specs.Mending.{tally as pixelTally, shown, mendable, mended}
+unfoldable pub use Rattle.display.specs.Display.{storedOf, columnOf, placeOf, nextAddress, pixelsFit, pixelsAfter}
 unfoldable pub use Rattle.engine.specs.Event.{isAcknowledged}
 unfoldable pub use Rattle.phases.specs.Phases.{isAddressed, phaseAfterAddress, phaseAfterLastRead}
-unfoldable pub use Rattle.engine.specs.Step.{entryRefusal, eventRefusal, refusalOf, acknowledge, applied, accepted, stepOf}
+unfoldable pub use Rattle.engine.specs.Step.{entryRefusal, eventRefusal, pixelRefusal, refusalOf, acknowledge, applied, accepted, stepOf}
 unfoldable pub use Rattle.phases.specs.Changes.{controlled, readByte, pulsed, sensed}
 unfoldable pub use Rattle.engine.specs.Run.{runFrom, runOf, tally, lastAnswer}
 unfoldable pub use Rattle.chip.specs.Plays.{Plays}
@@ -67,5 +72,6 @@ unfoldable pub use Rattle.host.specs.Calls.{resetCall, stepCall, runCall}
 unfoldable pub use Rattle.host.specs.Views.{glassCall, placeCall}
 unfoldable pub use Rattle.host.specs.Pulses.{pulsesCall, pulseRowCall}
 unfoldable pub use Rattle.host.specs.Compiling.{compileCall}
+unfoldable pub use Rattle.host.specs.Counting.{countsCall}
 unfoldable pub use Rattle.capture_lines.specs.Line.{pinsOf}
 unfoldable pub use Rattle.capture.specs.Replay.{replayOf}

@@ -1,7 +1,7 @@
--- The states that the cases start from: a chip after reset with some registers set.
+-- The states that the cases start from: a chip after reset with some registers set, and the counts of pixels of a counting start.
 use mathlib.Core.List.{List, [], _∷_}
 use Prim.Native.Nat.{ℕ, _+_, _*_}
-use Rattle.cases_proved.specs.Cited.{Registers, Chip, State, state, places, put, resetRegisters, resetChip, withRegisters, replicate, set, GS0}
+use Rattle.cases_proved.specs.Cited.{Registers, Chip, State, state, places, put, resetRegisters, resetChip, withRegisters, withPixels, replicate, set, GS0}
 use Rattle.cases_proved.specs.Cited.{GS1, GS2, GS3}
 
 -- a register and its value
@@ -24,7 +24,7 @@ chipWith before = withRegisters (resetChip 0) (withSettings before resetRegister
 abbrev pub zeros : List ℕ
 zeros = replicate places 0
 
--- the same with all memory 0, and a count of 0
+-- the same with all memory 0, and a count of 0; `upon-true` holds the counts of pixels against those of a counting start
 abbrev pub upon : List Setting → State
 upon before = state (chipWith before) zeros zeros 0
 
@@ -36,8 +36,17 @@ counting n s = state (s .chip) (s .memory) (s .writers) n
 abbrev pub withPins : ℕ → State → State
 withPins n s =
     let c = s .chip in
-    state (record { registers = c .registers; pins = n; status = c .status; «last_rs» = c .«last_rs»; phase = c .phase })
+    state (record { registers = c .registers; pins = n; status = c .status; «last_rs» = c .«last_rs»; phase = c .phase; pixels = c .pixels })
     (s .memory) (s .writers) (s .count)
+
+-- these counts of pixels, which need not be those of the memory
+abbrev pub having : ℕ → ℕ → ℕ → ℕ → State → State
+having n0 n1 n2 n3 s =
+    state (withPixels (s .chip) (record { zeros = n0; ones = n1; twos = n2; threes = n3 })) (s .memory) (s .writers) (s .count)
+
+-- byte b at place k
+abbrev pub holding : ℕ → ℕ → State → State
+holding k b s = state (s .chip) (set (s .memory) k b) (s .writers) (s .count)
 
 -- memories of these lengths
 abbrev pub lent : ℕ → ℕ → State → State

@@ -93,7 +93,7 @@ fn pulses(record: &[u64], memory: &[u8], row: u64, out: &mut [u8], at: usize) ->
 }
 
 fn step_by_step(pins: u64, events: &[u16], out: &mut [u8], at: usize) -> usize {
-    let mut record = [0u64; 34];
+    let mut record = [0u64; 38];
     let mut memory = [0u8; 1717];
     let mut writers = [0u64; 1717];
     host::pcf8820_reset(&mut record, pins);
@@ -148,7 +148,7 @@ fn lit_rows(record: &[u64], memory: &[u8], out: &mut [u8], at: usize) -> usize {
 }
 
 fn at_once(pins: u64, events: &[u16], out: &mut [u8], at: usize) -> usize {
-    let mut record = [0u64; 34];
+    let mut record = [0u64; 38];
     let mut memory = [0u8; 1717];
     let mut writers = [0u64; 1717];
     host::pcf8820_reset(&mut record, pins);

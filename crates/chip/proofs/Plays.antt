@@ -23,7 +23,7 @@ use Rattle.chip.specs.LastWriter.{before}
 use Rattle.chip.specs.Plays.{Good, Plays, played, Visible, writeAddress, singles, message, dataMessage, Does, Leads, advanced, written, Bytes}
 use Rattle.chip.specs.Plays.Leads.{no-more, by}
 use Rattle.chip.specs.Phases.{awaitsCommand}
-use Rattle.chip.specs.Promised.{After, Command, Taken, Fit, refusalOf, stepOf, outcome, storedOf, placeOf, nextAddress}
+use Rattle.chip.specs.Promised.{After, Command, Taken, Fit, refusalOf, stepOf, outcome, storedOf, placeOf, nextAddress, TrueCounts}
 use Rattle.commands.specs.Command.{commandOf, answerTo}
 use Rattle.chip.specs.When.{ListedEvent}
 use Rattle.chip.proofs.Laws.{stays-fit, stays-true, count-law, start-law, stop-law, address-law, control-law, command-law, display-law}
@@ -52,6 +52,11 @@ pub plays-end : (es : List ℕ) (Q : State → Type 0) (s : State) → Plays es 
 unfolding Plays
 plays-end [] Q s p = p
 plays-end (e ∷ es) Q s p = plays-end es Q (stepOf e s .state) (p .1)
+
+-- true counts of pixels stay true
+pub played-true : (es : List ℕ) (s : State) → TrueCounts s → TrueCounts (played es s)
+played-true [] s t = t
+played-true (e ∷ es) s t = played-true es (stepOf e s .state) (stays-true e s t)
 
 -- ---- one event, seen from outside
 
