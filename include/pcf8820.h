@@ -2,7 +2,7 @@
  *
  * The chip's record
  *
- * The host holds a chip's record as 34 words of 64 bits, in this order:
+ * The host holds a chip's record as 38 words of 64 bits, in this order:
  *
  *   word  what                                               allowed
  *      0  h    command page                                  0..4
@@ -43,14 +43,36 @@
  *           2 ignoring              6 reading
  *           3 control byte awaited  7 read ended
  *     33  the phase's RS                                     0, 1 in phases 4 and 5, else 0
+ *     34  pixels of value 0 in the display memory            0..6767
+ *     35  pixels of value 1                                  0..6767
+ *     36  pixels of value 2                                  0..6767
+ *     37  pixels of value 3                                  0..6767
  *
- * Any other buffer, one that is not 34 words long among them, stands for no record. The words, the
+ * Any other buffer, one that is not 38 words long among them, stands for no record. The words, the
  * phases and all numbers below have names, which stand before the calls.
  *
  * The memories
  *
  * The display memory is 1,717 bytes: 17 banks of 101 columns, place 101 * bank + column. The writers
  * are 1,717 words at the same places: the number of the event that wrote the byte, 0 for none.
+ *
+ * The pixel counts
+ *
+ * The display memory has 67 rows of 101 pixels, 6,767 in all, each with a value of 0..3: row 4 * bank + k
+ * is bits 2k + 1 and 2k of the bank's bytes. Bank 16 has three rows, so bits 6 and 7 of its bytes are no
+ * pixel, whatever they hold. Words 34 to 37 of the record say how many pixels have each value, so that a
+ * dashboard refreshes by four loads and goes over no memory.
+ *
+ * The chip mends the counts at each display byte that it stores: the pixels of the byte that stood there
+ * leave, those of the byte that stands there now join. No other event changes them; a reset pulse keeps
+ * them, as it keeps the memory. Counts that are true at the start stay true, add up to 6,767 and never
+ * give refusal 16. They are true after pcf8820_reset where the memory holds zeros. A host that brings
+ * another memory, or writes into it by itself, makes them by pcf8820_counts.
+ *
+ * Nothing looks whether the counts of a record are true. Untrue ones are taken as they are, and each
+ * still moves by what leaves and what joins, until there is a display byte that would take one of them
+ * below 0 or above 6,767. That byte is refused by 16, and so is each later one that does not fit. The way
+ * out is to count again.
  *
  * Bus events
  *
@@ -71,10 +93,12 @@
  *
  * Refusals by the chip (those of the bus, the glass, drawing lists and the wires stand with their calls)
  *
- *   1  the memory or the writers are not 1,717 long
- *   2  the record is not allowed
- *   3  the event is not one of those listed above
- *   4  the event count is 2^64 - 1
+ *   1   the memory or the writers are not 1,717 long
+ *   2   the record is not allowed
+ *   3   the event is not one of those listed above
+ *   4   the event count is 2^64 - 1
+ *   16  the event is a display byte, and with the whole byte in its place a pixel count would be below 0
+ *       or above 6,767, which true counts never are
  *
  * Where more than one applies, the lowest is given; the bus and drawing lists have an order of their
  * own. A refused call changes no buffer that it is lent, with two exceptions: a run does the events
@@ -100,22 +124,24 @@ extern "C" {
 /* ---- names for the numbers */
 
 /* How many: words of a record; places of a memory, which are columns times banks; chips on a bus; rows
- * of the glass; frames of a round, and bytes in the row buffer of pcf8820_pulse_row, which are columns
- * times frames; lines of a drawing list at most; words of a wire state. */
+ * of the glass; pixels, which are columns times rows; frames of a round, and bytes in the row buffer of
+ * pcf8820_pulse_row, which are columns times frames; lines of a drawing list at most; words of a wire
+ * state. */
 enum pcf8820_size {
-    PCF8820_RECORD_WORDS = 34,
+    PCF8820_RECORD_WORDS = 38,
     PCF8820_COLUMNS = 101,
     PCF8820_BANKS = 17,
     PCF8820_PLACES = 1717,
     PCF8820_CHIPS = 4,
     PCF8820_ROWS = 67,
+    PCF8820_PIXELS = 6767,
     PCF8820_FRAMES = 4,
     PCF8820_ROW_PULSES = 404,
     PCF8820_MOST_LINES = 4096,
     PCF8820_WIRE_WORDS = 5
 };
 
-/* Where the record has what. */
+/* Where the record has what. The count of the pixels of value v is word PCF8820_WORD_PIXELS_0 + v. */
 enum pcf8820_word {
     PCF8820_WORD_H = 0,
     PCF8820_WORD_DO = 1,
@@ -150,7 +176,11 @@ enum pcf8820_word {
     PCF8820_WORD_STATUS = 30,
     PCF8820_WORD_LAST_RS = 31,
     PCF8820_WORD_PHASE = 32,
-    PCF8820_WORD_PHASE_RS = 33
+    PCF8820_WORD_PHASE_RS = 33,
+    PCF8820_WORD_PIXELS_0 = 34,
+    PCF8820_WORD_PIXELS_1 = 35,
+    PCF8820_WORD_PIXELS_2 = 36,
+    PCF8820_WORD_PIXELS_3 = 37
 };
 
 /* What the word of the phase holds. */
@@ -247,21 +277,33 @@ enum pcf8820_refusal {
     PCF8820_REFUSED_CHIPS = 12,
     PCF8820_REFUSED_SENSOR_PINS = 13,
     PCF8820_REFUSED_SAMPLE = 14,
-    PCF8820_REFUSED_EVENT_BUFFER = 15
+    PCF8820_REFUSED_EVENT_BUFFER = 15,
+    PCF8820_REFUSED_PIXEL_COUNT = 16
 };
 
 /* ---- the calls */
 
-/* Writes the record after a power-on reset for these pins: pd and dof are 1, word 29 is pins, every
- * other word is 0.
+/* Writes the record after a power-on reset for these pins: pd and dof are 1, word 29 is pins, word 34 is
+ * 6767, every other word is 0. The pixel counts are those of a memory of zeros; for another memory
+ * pcf8820_counts gives them.
  *
- * Gives 0; or 2, with the buffer unchanged, if pins is above 3 or record_len is not 34. */
+ * Gives 0; or 2, with the buffer unchanged, if pins is above 3 or record_len is not 38. */
 uint64_t pcf8820_reset(uint64_t *record, size_t record_len, uint64_t pins);
+
+/* The counting start: how many pixels of a memory have the value 0, 1, 2 and 3. A host that brings its
+ * own memory puts the four numbers into the words PCF8820_WORD_PIXELS_0 to _3 of the record before the
+ * first event; so does one whose display byte is refused by 16, and sends it again. The memory is only
+ * looked at.
+ *
+ * Gives 0; or 1, if memory_len is not 1,717. The four numbers are set in every case, for 1 to 0. */
+uint64_t pcf8820_counts(const uint8_t *memory, size_t memory_len,
+                        uint64_t *n0, uint64_t *n1, uint64_t *n2, uint64_t *n3);
 
 /* Takes one bus event. The record, the memories and the count are changed in place.
  *
  * Gives
  *   1..4     refused, nothing changed
+ *   16       a display byte that the pixel counts do not fit: refused, nothing changed
  *   256      accepted, no answer: START, STOP, reset pulse and sensor reading
  *   257      an address, control or display byte, acknowledged
  *   258      a byte from the master, not acknowledged
@@ -270,21 +312,22 @@ uint64_t pcf8820_reset(uint64_t *record, size_t record_len, uint64_t pins);
  *   261      a command byte, acknowledged: out of range, X above 100, Y above 16 or page above 4
  *   512 + b  the byte b (0..255) was read: events 258 and 259
  *
- * A command byte is a byte from the master in phase 4 or 5 with RS 0. The page and the byte alone
- * decide between 259, 260 and 261, and not whether a register changes: no operation (0) and page
- * return (1) in every page, row block swapping (64, 72, 80 and 88 in page 4) and a command that
- * sets a register to what it held are taken. 260 and 261 leave every register as it was. */
+ * A byte from the master in phase 4 or 5 is a command byte with RS 0, a display byte with RS 1. The
+ * page and the command byte alone decide between 259, 260 and 261, and not whether a register changes:
+ * no operation (0) and page return (1) in every page, row block swapping (64, 72, 80 and 88 in page 4)
+ * and a command that sets a register to what it held are taken. 260 and 261 leave every register as it
+ * was. */
 uint64_t pcf8820_step(uint64_t *record, size_t record_len,
                       uint8_t *memory, size_t memory_len,
                       uint64_t *writers, size_t writers_len,
                       uint64_t *count, uint16_t event);
 
 /* Takes bus events in order, up to the first refused one. Refusals 1 and 2 are looked for once, at
- * entry, even where there are no events; 3 and 4 at each event. The events before a refused one
+ * entry, even where there are no events; 3, 4 and 16 at each event. The events before a refused one
  * stand: the record and the memories are left as the last of them made them, and *count has risen by
  * as many as were done.
  *
- * Gives 0 if all events were done, else the refusal, 1..4. Three numbers are set in every case:
+ * Gives 0 if all events were done, else the refusal, 1..4 or 16. Three numbers are set in every case:
  *   *done          how many events were done
  *   *unknown       how many of these were unknown commands, for which pcf8820_step gives 260
  *   *out_of_range  how many were commands out of range, for which it gives 261
@@ -311,6 +354,7 @@ uint64_t pcf8820_run(uint64_t *record, size_t record_len,
  *   3   the event is not one of those listed above
  *   13  the event is a sensor reading, 512..767, and pins is above 3
  *   4   the event count is 2^64 - 1
+ *   16  the event is a display byte for one of the chips, and does not fit its pixel counts
  *
  * A refused event changes none of the twelve buffers, nor the count. An accepted one leaves four chips
  * that 12 lets pass.
@@ -329,7 +373,8 @@ uint64_t pcf8820_run(uint64_t *record, size_t record_len,
  * arguments or in an array; for other events any number will do.
  *
  * Gives
- *   1..4, 12, 13   refused, nothing changed
+ *   1..4, 12, 13, 16
+ *                  refused, nothing changed
  *   256            accepted, no answer: START, STOP, reset pulse and sensor reading
  *   257            an address, control or display byte, acknowledged by a chip
  *   258            a byte from the master that no chip acknowledges
