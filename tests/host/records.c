@@ -16,7 +16,9 @@ static const struct word word_table[RECORD_LEN] = {
     { "s", 7 }, { "tc", 7 }, { "sm", 1 }, { "vop", 127 }, { "gr", 3 },
     { "gs0", 63 }, { "gs1", 63 }, { "gs2", 63 }, { "gs3", 63 },
     { "dof", 1 }, { "dm", 1 }, { "ec", 1 }, { "oc", 1 },
-    { "pins", 3 }, { "tr", 255 }, { "last_rs", 1 }, { "phase", 7 }, { "phase_rs", 1 }
+    { "pins", 3 }, { "tr", 255 }, { "last_rs", 1 }, { "phase", 7 }, { "phase_rs", 1 },
+    { "pixels_0", ALL_PIXELS }, { "pixels_1", ALL_PIXELS },
+    { "pixels_2", ALL_PIXELS }, { "pixels_3", ALL_PIXELS }
 };
 
 const struct bus_phase bus_phases[PHASES] = {
@@ -53,6 +55,7 @@ void reset_record(uint64_t *words, uint64_t pins)
     words[W_PD] = 1;
     words[W_DOF] = 1;
     words[W_PINS] = pins;
+    words[W_PIXELS_0] = ALL_PIXELS;
     words[RECORD_LEN] = random64();
 }
 
@@ -75,6 +78,8 @@ void random_record(uint64_t *words)
     if (below(2))
         words[W_Y] = below(2) ? 16 : 0;
     set_phase(words, &bus_phases[below(PHASES)]);
+    for (size_t v = 0; v < PIXEL_VALUES; v++)
+        words[W_PIXELS_0 + v] = 2000 + below(2768);
     words[RECORD_LEN] = random64();
 }
 
@@ -95,6 +100,15 @@ void set_write_mode(uint64_t *words, unsigned mode)
     words[W_MX] = mode & 1;
     words[W_V] = mode >> 1 & 1;
     words[W_DO] = mode >> 2 & 1;
+}
+
+/* By its bytes: four pixels each, those of the last bank three. */
+void set_pixels(uint64_t *words, const uint8_t *memory)
+{
+    memset(words + W_PIXELS_0, 0, PIXEL_VALUES * sizeof *words);
+    for (size_t place = 0; place < PLACES; place++)
+        for (unsigned bits = 0; bits < (place < 16 * 101 ? 8 : 6); bits += 2)
+            words[W_PIXELS_0 + (memory[place] >> bits & 3)]++;
 }
 
 uint16_t unlisted_event(void)

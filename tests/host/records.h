@@ -9,10 +9,10 @@
 enum {
     W_H = 0, W_DO = 1, W_PD = 2, W_V = 3, W_D = 4, W_E = 5, W_MX = 6, W_MY = 7, W_PS = 8,
     W_X = 9, W_Y = 10, W_DP = 13, W_SM = 18, W_GR = 20, W_GS0 = 21, W_DOF = 25, W_OC = 28,
-    W_PINS = 29, W_STATUS = 30, W_LAST_RS = 31, W_PHASE = 32, W_PHASE_RS = 33
+    W_PINS = 29, W_STATUS = 30, W_LAST_RS = 31, W_PHASE = 32, W_PHASE_RS = 33, W_PIXELS_0 = 34
 };
 
-enum { PHASES = 10, LAST_PAGE = 4, WRITE_MODES = 8 };
+enum { PHASES = 10, LAST_PAGE = 4, WRITE_MODES = 8, PIXEL_VALUES = 4, ALL_PIXELS = 6767 };
 
 /* Every phase, those that have an RS once with each. */
 struct bus_phase {
@@ -31,7 +31,9 @@ uint64_t random64(void);
 /* 0 up to, but not, bound. */
 uint64_t below(uint64_t bound);
 
-/* Each fills MOST_WORDS words; the one after the record is noise. */
+/* Each fills MOST_WORDS words; the one after the record is noise. The counts of pixels are those of a
+ * memory of zeros; all at their limit; and, of a random record, far enough from both ends for 500 display
+ * bytes, but true of no memory. */
 void reset_record(uint64_t *words, uint64_t pins);
 void full_record(uint64_t *words);
 void random_record(uint64_t *words);
@@ -43,6 +45,9 @@ void set_phase(uint64_t *words, const struct bus_phase *phase);
 
 /* One of the mixtures of MX, V and DO: how display bytes are written. */
 void set_write_mode(uint64_t *words, unsigned mode);
+
+/* The counts of pixels become those of this memory, 1,717 bytes, counted afresh. */
+void set_pixels(uint64_t *words, const uint8_t *memory);
 
 /* A number that is no bus event. */
 uint16_t unlisted_event(void);

@@ -4,6 +4,7 @@
 #define model_step pcf8820_step
 #define model_run pcf8820_run
 #define model_bus_step pcf8820_bus_step
+#define model_counts pcf8820_counts
 #define model_glass pcf8820_glass
 #define model_place pcf8820_place
 #define model_pulses pcf8820_pulses
@@ -15,6 +16,7 @@
 #define model_allowed stand_in_allowed
 #define model_row stand_in_row
 #define model_listed stand_in_listed
+#define model_pixels_fit stand_in_pixels_fit
 #define model_plain stand_in_plain
 #define plain_cells stand_in_plain_cells
 #define plain_registers stand_in_plain_registers

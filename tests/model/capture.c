@@ -2,6 +2,7 @@
 
 #include "bus.h"
 #include "model.h"
+#include "pixels.h"
 
 #include <stdbool.h>
 #include <string.h>
@@ -88,6 +89,15 @@ static size_t take_lines(struct reader *reader, uint16_t *events, unsigned *stop
     return count;
 }
 
+/* Gives whether there is a chip with these pins. */
+static bool start(struct played *played, unsigned pins)
+{
+    uint64_t *pixels = played->record + PIXELS_0;
+    memset(played, 0, sizeof *played);
+    return model_reset(played->record, WORDS, pins) == 0
+        && model_counts(played->memory, PLACES, &pixels[0], &pixels[1], &pixels[2], &pixels[3]) == 0;
+}
+
 uint64_t play_capture(FILE *file, struct played *played)
 {
     struct reader reader = { .file = file, .at_a_time = BUFFER };
@@ -95,8 +105,7 @@ uint64_t play_capture(FILE *file, struct played *played)
     uint64_t lines = 1;
     unsigned stopped = 0;
 
-    memset(played, 0, sizeof *played);
-    if (model_reset(played->record, WORDS, pins_line(&reader)) != 0)
+    if (!start(played, pins_line(&reader)))
         return lines;
     while (stopped != NO_LINE) {
         uint64_t done, unknown, out_of_range;
@@ -116,8 +125,7 @@ uint64_t play_events(FILE *file, struct played *played, told *tell)
     struct reader reader = { .file = file, .at_a_time = 1 };
     uint64_t earlier[WORDS];
 
-    memset(played, 0, sizeof *played);
-    if (model_reset(played->record, WORDS, pins_line(&reader)) != 0)
+    if (!start(played, pins_line(&reader)))
         return 1;
     for (uint64_t line = 2;; line++) {
         unsigned event = event_line(&reader);

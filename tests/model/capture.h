@@ -8,7 +8,7 @@
 #include <stdint.h>
 #include <stdio.h>
 
-/* The chip after a capture. */
+/* The chip after a capture. It begins after reset with memories of zeros, and with a counting start. */
 struct played {
     uint64_t record[WORDS];
     uint8_t memory[PLACES];

@@ -6,7 +6,10 @@
 
 enum { CHIPS = 4, LAST_PINS = 3 };
 
-enum refusal { BAD_MEMORY = 1, BAD_RECORD = 2, BAD_EVENT = 3, COUNT_FULL = 4, BAD_BUS = 12, BAD_PINS = 13 };
+enum refusal {
+    BAD_MEMORY = 1, BAD_RECORD = 2, BAD_EVENT = 3, COUNT_FULL = 4, BAD_BUS = 12, BAD_PINS = 13,
+    BAD_PIXEL_COUNT = 16
+};
 
 struct chip {
     uint64_t *record;
@@ -73,6 +76,15 @@ static bool is_reading(uint16_t event)
     return event >= SENSOR && event < SENSOR + 256;
 }
 
+/* Only the chip that is past its address can be written to. */
+static bool pixels_fit(const struct chip *chips, uint16_t event)
+{
+    for (int c = 0; c < CHIPS; c++)
+        if (!model_pixels_fit(chips[c].record, chips[c].memory, event))
+            return false;
+    return true;
+}
+
 static uint64_t refusal_of(const struct chip *chips, uint64_t count, uint16_t event, uint64_t pins)
 {
     if (!good_memories(chips))
@@ -87,6 +99,8 @@ static uint64_t refusal_of(const struct chip *chips, uint64_t count, uint16_t ev
         return BAD_PINS;
     if (count == UINT64_MAX)
         return COUNT_FULL;
+    if (!pixels_fit(chips, event))
+        return BAD_PIXEL_COUNT;
     return 0;
 }
 

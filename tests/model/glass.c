@@ -3,8 +3,6 @@
 #include "model.h"
 #include "words.h"
 
-enum { ROWS = 67, ROWS_OF_A_BANK = 4 };
-
 enum refusal { BAD_MEMORY = 1, BAD_RECORD = 2, OFF_THE_GLASS = 5 };
 
 enum shown { DARK = 256, UNDRIVEN = 257, LEVEL = 512, PLACE = 512 };

@@ -10,21 +10,22 @@ enum { LAST_PAGE = 4 };
 /* In the command table only: the grey register that GR selects. */
 enum { GS = WORDS };
 
-enum refusal { BAD_MEMORY = 1, BAD_RECORD, BAD_EVENT, COUNT_FULL };
+enum refusal { BAD_MEMORY = 1, BAD_RECORD, BAD_EVENT, COUNT_FULL, BAD_PIXEL_COUNT = 16 };
 
 /* The largest allowed value of each word. */
-static const uint8_t limit[] = {
+static const uint16_t limit[] = {
     [H] = 4, [DO] = 1, [PD] = 1, [V] = 1, [D] = 1, [E] = 1, [MX] = 1, [MY] = 1, [PS] = 1,
     [X] = 100, [Y] = 16, [BS] = 7, [BSH] = 1, [DP] = 7, [PRS] = 1, [HVE] = 1, [S] = 7, [TC] = 7,
     [SM] = 1, [VOP] = 127, [GR] = 3, [GS0] = 63, [GS1] = 63, [GS2] = 63, [GS3] = 63,
     [DOF] = 1, [DM] = 1, [EC] = 1, [OC] = 1,
     [SA] = 3, [TR] = 255, [LAST_RS] = 1, [PHASE] = READ_ENDED, [PHASE_RS] = 1,
+    [PIXELS_0] = PIXELS, [PIXELS_1] = PIXELS, [PIXELS_2] = PIXELS, [PIXELS_3] = PIXELS,
     [GS] = 63
 };
 
-/* The chip while it works: every word of its record fits a byte. */
+/* The chip while it works: every word of its record fits 16 bits. */
 struct chip {
-    uint8_t now[WORDS];
+    uint16_t now[WORDS];
     uint64_t count;
     uint8_t *memory;
     uint64_t *writers;
@@ -72,7 +73,7 @@ static const struct row rows[] = {
     { 4, "010tb000", "", { 0 } },                      /* row block swapping: nothing kept */
 };
 
-enum { ROWS = sizeof rows / sizeof rows[0] };
+enum { TABLE_ROWS = sizeof rows / sizeof rows[0] };
 
 /* A command byte's answer, and what it does: it gives these fields these values. */
 struct effect {
@@ -131,7 +132,7 @@ static void fill_effects(void)
     for (int page = 0; page <= LAST_PAGE; page++)
         for (unsigned byte = 0; byte < 256; byte++) {
             effects[page][byte].answer = UNKNOWN;
-            for (int r = 0; r < ROWS; r++)
+            for (int r = 0; r < TABLE_ROWS; r++)
                 if (takes(&rows[r], page, byte))
                     add_effect(&effects[page][byte], &rows[r], byte);
         }
@@ -141,7 +142,7 @@ static void fill_effects(void)
 int model_row(int page, unsigned byte)
 {
     int r = 0;
-    while (r < ROWS && !takes(&rows[r], page, byte))
+    while (r < TABLE_ROWS && !takes(&rows[r], page, byte))
         r++;
     return r;
 }
@@ -170,8 +171,56 @@ static uint8_t swapped(uint8_t byte)
     return (uint8_t)b;
 }
 
+/* Where a display byte is stored, and what is stored of it. */
+static unsigned place_now(const struct chip *chip)
+{
+    unsigned x = chip->now[X];
+    unsigned column = chip->now[MX] ? COLUMNS - 1u - x : x;
+    return COLUMNS * chip->now[Y] + column;
+}
+
+static uint8_t stored(const struct chip *chip, uint8_t byte)
+{
+    if (chip->now[DO])
+        byte = swapped(byte);
+    if (chip->now[Y] == BANKS - 1)
+        byte &= 0x3F;
+    return byte;
+}
+
+/* How many pixels a byte of the present bank holds: the last bank has three rows only. */
+static int pixels_now(const struct chip *chip)
+{
+    return chip->now[Y] == BANKS - 1 ? ROWS - ROWS_OF_A_BANK * (BANKS - 1) : ROWS_OF_A_BANK;
+}
+
+/* Adds 1 to the count of a pixel's value, or takes 1 from it, for the lowest pixels of a byte. */
+static void tally(int *counts, uint8_t byte, int pixels, int sign)
+{
+    for (int k = 0; k < pixels; k++)
+        counts[byte >> 2 * k & 3] += sign;
+}
+
+/* The pixels of the byte that stands in the place leave, those of the byte that is stored join. Gives
+ * whether a record may hold the counts that come of it; if not, they stay as they are. */
+static bool mend_counts(struct chip *chip, uint8_t byte)
+{
+    int pixels = pixels_now(chip);
+    int counts[VALUES];
+    for (int v = 0; v < VALUES; v++)
+        counts[v] = chip->now[PIXELS_0 + v];
+    tally(counts, chip->memory[place_now(chip)], pixels, -1);
+    tally(counts, stored(chip, byte), pixels, 1);
+    for (int v = 0; v < VALUES; v++)
+        if (counts[v] < 0 || counts[v] > PIXELS)
+            return false;
+    for (int v = 0; v < VALUES; v++)
+        chip->now[PIXELS_0 + v] = (uint16_t)counts[v];
+    return true;
+}
+
 /* Adds 1 to an address; past its last value it starts again at 0 and the other one moves on. */
-static void advance(uint8_t *first, uint8_t first_last, uint8_t *second, uint8_t second_last)
+static void advance(uint16_t *first, uint16_t first_last, uint16_t *second, uint16_t second_last)
 {
     if (*first < first_last) {
         *first += 1;
@@ -183,16 +232,11 @@ static void advance(uint8_t *first, uint8_t first_last, uint8_t *second, uint8_t
 
 static uint64_t take_display_byte(struct chip *chip, uint8_t byte)
 {
-    uint8_t *x = &chip->now[X];
-    uint8_t *y = &chip->now[Y];
-    unsigned column = chip->now[MX] ? COLUMNS - 1u - *x : *x;
-    unsigned place = COLUMNS * *y + column;
+    uint16_t *x = &chip->now[X];
+    uint16_t *y = &chip->now[Y];
+    unsigned place = place_now(chip);
 
-    if (chip->now[DO])
-        byte = swapped(byte);
-    if (*y == BANKS - 1)
-        byte &= 0x3F;
-    chip->memory[place] = byte;
+    chip->memory[place] = stored(chip, byte);
     chip->writers[place] = chip->count;
 
     if (chip->now[V])
@@ -206,7 +250,7 @@ static uint64_t take_display_byte(struct chip *chip, uint8_t byte)
 
 static void enter(struct chip *chip, enum phase phase, uint8_t rs)
 {
-    chip->now[PHASE] = (uint8_t)phase;
+    chip->now[PHASE] = (uint16_t)phase;
     chip->now[PHASE_RS] = rs;
 }
 
@@ -230,7 +274,7 @@ static uint64_t take_control(struct chip *chip, uint8_t byte)
 
 static uint64_t take_written(struct chip *chip, uint8_t byte)
 {
-    uint8_t rs = chip->now[PHASE_RS];
+    bool rs = chip->now[PHASE_RS];
     if (chip->now[PHASE] == ONE_BYTE)
         enter(chip, CONTROL, 0);
     return rs ? take_display_byte(chip, byte) : take_command(chip, byte);
@@ -264,7 +308,7 @@ static uint64_t take_read(struct chip *chip, bool last)
     return BYTE_READ + (chip->now[LAST_RS] ? 255u : chip->now[TR]);
 }
 
-/* Registers, status byte, last RS and phase; the pins stay. */
+/* Registers, status byte, last RS and phase; the pins and the counts of pixels stay. */
 static void reset(struct chip *chip)
 {
     for (int w = H; w <= OC; w++)
@@ -287,13 +331,22 @@ bool model_listed(uint16_t event)
     return event <= RESET_PULSE || (event >= SENSOR && event < SENSOR + 256);
 }
 
-/* A refusal, with nothing changed, or an answer. */
+static bool is_display_byte(const struct chip *chip, uint16_t event)
+{
+    bool written = chip->now[PHASE] == ONE_BYTE || chip->now[PHASE] == ENDLESS;
+    return event < 256 && written && chip->now[PHASE_RS] == 1;
+}
+
+/* A refusal, with nothing changed, or an answer. Nothing refuses an event once its pixels fit, so that
+ * the counts are mended where they are looked at. */
 static uint64_t take_event(struct chip *chip, uint16_t event)
 {
     if (!model_listed(event))
         return BAD_EVENT;
     if (chip->count == UINT64_MAX)
         return COUNT_FULL;
+    if (is_display_byte(chip, event) && !mend_counts(chip, (uint8_t)event))
+        return BAD_PIXEL_COUNT;
     chip->count++;
 
     if (event < 256)
@@ -314,7 +367,7 @@ static uint64_t take_event(struct chip *chip, uint16_t event)
 
 static bool is_refusal(uint64_t result)
 {
-    return result <= COUNT_FULL;
+    return result < NOTHING;
 }
 
 /* ---- Words in, words out ------------------------------------------------------------------ */
@@ -326,7 +379,7 @@ static bool load(struct chip *chip, const uint64_t *record, size_t record_len)
     for (int w = 0; w < WORDS; w++) {
         if (record[w] > limit[w])
             return false;
-        chip->now[w] = (uint8_t)record[w];
+        chip->now[w] = (uint16_t)record[w];
     }
     bool phase_has_rs = chip->now[PHASE] == ONE_BYTE || chip->now[PHASE] == ENDLESS;
     return phase_has_rs || chip->now[PHASE_RS] == 0;
@@ -346,6 +399,13 @@ bool model_allowed(const uint64_t *record, size_t record_len)
     return load(&chip, record, record_len);
 }
 
+bool model_pixels_fit(const uint64_t *record, uint8_t *memory, uint16_t event)
+{
+    struct chip chip = { .memory = memory };
+    load(&chip, record, WORDS);
+    return !is_display_byte(&chip, event) || mend_counts(&chip, (uint8_t)event);
+}
+
 uint64_t model_reset(uint64_t *record, size_t record_len, uint64_t pins)
 {
     struct chip chip;
@@ -353,7 +413,8 @@ uint64_t model_reset(uint64_t *record, size_t record_len, uint64_t pins)
         return BAD_RECORD;
     memset(&chip, 0, sizeof chip);
     reset(&chip);
-    chip.now[SA] = (uint8_t)pins;
+    chip.now[SA] = (uint16_t)pins;
+    chip.now[PIXELS_0] = PIXELS;
     store(&chip, record);
     return 0;
 }

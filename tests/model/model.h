@@ -28,6 +28,10 @@ bool model_allowed(const uint64_t *record, size_t record_len);
 /* Whether this number is that of a bus event. */
 bool model_listed(uint16_t event);
 
+/* Whether a chip, its record allowed and its memory of the right length, has counts of pixels that the
+ * event fits. Only a display byte can fail to. */
+bool model_pixels_fit(const uint64_t *record, uint8_t *memory, uint16_t event);
+
 /* The number of the row that takes the byte in this page, by the data sheet's order from 0; 21, the
  * number of rows, where none does. */
 int model_row(int page, unsigned byte);

@@ -49,6 +49,10 @@ static void print_state(const struct played *played)
     print_number("count", played->count);
     print_number("acknowledged", acknowledged);
     print_number("not acknowledged", not_acknowledged);
+    print_number("pixels 0", record[PIXELS_0]);
+    print_number("pixels 1", record[PIXELS_1]);
+    print_number("pixels 2", record[PIXELS_2]);
+    print_number("pixels 3", record[PIXELS_3]);
 }
 
 int main(int argc, char **argv)

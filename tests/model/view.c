@@ -5,7 +5,7 @@
 
 #include <inttypes.h>
 
-enum { ROWS = 67, DARK = 256, UNDRIVEN = 257, LEVEL = 512 };
+enum { DARK = 256, UNDRIVEN = 257, LEVEL = 512 };
 
 /* The higher the level, the darker the grey. */
 static void print_pixel(uint64_t shown)

@@ -9,7 +9,7 @@
 
 #define USAGE "who ROW COLUMN [CAPTURE]"
 
-enum { ROWS = 67, ROWS_OF_A_BANK = 4, DARK = 256, UNDRIVEN = 257, LEVEL = 512, PLACE = 512 };
+enum { DARK = 256, UNDRIVEN = 257, LEVEL = 512, PLACE = 512 };
 
 /* A number as in lists and captures: 1 to 3 digits, and none begins with 0 but 0 itself. */
 static unsigned number_of(const char *word, unsigned most, const char *fault)

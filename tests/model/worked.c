@@ -1,23 +1,24 @@
 /* Prints the worked cases: what each event answers, and what a run over all of them leaves.
  *
- * Every case starts from the reset record with both memories 0:
+ * Every case starts from the reset record with both memories 0, and with a counting start:
  *
  *   case NAME
  *   answers A1 A2 ...                one for each event, up to the first refused one
  *   done N refusal R unknown U out-of-range O
  *                                    of a run over the whole list on a fresh chip, R 0 if none
- *   record W0 W1 ... W33 COUNT       after that run, the event count behind the record
+ *   record W0 W1 ... W37 COUNT       after that run, the event count behind the record
  *   cell COLUMN BANK BYTE EVENT      one for each written place, by bank, then column
  *   pulses ROW 5 P0 P1 P2 P3         one for each of the glass's rows 8 to 11 that is lit in column 5 */
 #include "example.h"
 #include "model.h"
+#include "pixels.h"
 #include "pulses.h"
 
 #include <stdio.h>
 #include <stdlib.h>
 #include <string.h>
 
-enum { WORDS = 34, COLUMNS = 101, BANKS = 17, PLACES = COLUMNS * BANKS, MOST_EVENTS = 256 };
+enum { WORDS = 38, PIXELS_0 = 34, COLUMNS = 101, BANKS = 17, PLACES = COLUMNS * BANKS, MOST_EVENTS = 256 };
 
 enum { START = 256, STOP = 257 };
 
@@ -117,11 +118,13 @@ static struct list example_list(void)
 
 static void start(struct chip *chip, uint64_t pins)
 {
+    uint64_t *pixels = chip->record + PIXELS_0;
     memset(chip, 0, sizeof *chip);
     if (model_reset(chip->record, WORDS, pins) != 0) {
         fprintf(stderr, "worked: no chip has these pins\n");
         exit(1);
     }
+    model_counts(chip->memory, PLACES, &pixels[0], &pixels[1], &pixels[2], &pixels[3]);
 }
 
 static void print_answers(const struct list *list, uint64_t pins)

@@ -27,13 +27,13 @@ stop() {
 # parts PROGRAM: the model's sources that it is made of.
 parts() {
     case $1 in
-    replay) echo replay capture program model ;;
-    view) echo view capture program model glass ;;
+    replay) echo replay capture program model pixels ;;
+    view) echo view capture program model pixels glass ;;
     draw) echo draw program compile plain list model ;;
-    compare) echo compare capture names program model ;;
+    compare) echo compare capture names program model pixels ;;
     search) echo search program model ;;
-    who) echo who capture program model glass ;;
-    state | trace) echo "$1" capture names program model ;;
+    who) echo who capture program model pixels glass ;;
+    state | trace) echo "$1" capture names program model pixels ;;
     wires) echo wires wires_program program ;;
     esac
 }

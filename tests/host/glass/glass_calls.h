@@ -10,7 +10,7 @@
 #include <stddef.h>
 #include <stdint.h>
 
-enum { ROWS = 67, COLUMNS = 101, PLACES = 1717, RECORD_LEN = 34, MOST_WORDS = RECORD_LEN + 1 };
+enum { ROWS = 67, COLUMNS = 101, PLACES = 1717, RECORD_LEN = 38, MOST_WORDS = RECORD_LEN + 1 };
 
 enum { FRAMES = 4, ROW_BYTES = COLUMNS * FRAMES, MOST_ROW_BYTES = 2 * ROW_BYTES };
 
