@@ -2,6 +2,7 @@
 
 #include "model.h"
 #include "pcf8820.h"
+#include "pixels.h"
 #include "records.h"
 
 #include <stdio.h>
@@ -9,6 +10,7 @@
 
 struct side {
     struct lent record, memory, writers, count, events, done, unknown, out_of_range;
+    struct lent pixels[PIXEL_VALUES];
 };
 
 static struct side model, library;
@@ -67,6 +69,8 @@ static void map_side(struct side *side)
     map_lent(&side->done, sizeof(uint64_t));
     map_lent(&side->unknown, sizeof(uint64_t));
     map_lent(&side->out_of_range, sizeof(uint64_t));
+    for (size_t v = 0; v < PIXEL_VALUES; v++)
+        map_lent(&side->pixels[v], sizeof(uint64_t));
 }
 
 void harness_start(void)
@@ -87,6 +91,8 @@ static void lend_side(struct side *side, enum where where)
     put_lent(&side->done, sizeof(uint64_t), where);
     put_lent(&side->unknown, sizeof(uint64_t), where);
     put_lent(&side->out_of_range, sizeof(uint64_t), where);
+    for (size_t v = 0; v < PIXEL_VALUES; v++)
+        put_lent(&side->pixels[v], sizeof(uint64_t), where);
 }
 
 void lend(size_t record_len, size_t memory_len, size_t writers_len, enum where where)
@@ -126,6 +132,29 @@ void set_count(uint64_t count)
     *words_of(&library.count) = count;
 }
 
+void set_byte(size_t place, uint8_t byte)
+{
+    model.memory.at[place] = byte;
+    library.memory.at[place] = byte;
+}
+
+void set_true_pixels(void)
+{
+    set_pixels(words_of(&model.record), library.memory.at);
+    set_pixels(words_of(&library.record), library.memory.at);
+}
+
+void expect_true_pixels(void)
+{
+    uint64_t words[MOST_WORDS];
+    set_pixels(words, library.memory.at);
+    for (size_t v = 0; v < PIXEL_VALUES; v++)
+        if (word_now(W_PIXELS_0 + v) != words[W_PIXELS_0 + v])
+            fail("the count of value %zu is %llu, counted afresh %llu", v,
+                 (unsigned long long)word_now(W_PIXELS_0 + v),
+                 (unsigned long long)words[W_PIXELS_0 + v]);
+}
+
 uint64_t word_now(size_t place)
 {
     return words_of(&library.record)[place];
@@ -153,13 +182,13 @@ void restore(const struct state *state)
     restore_side(&library, state);
 }
 
-void expect_state(const struct state *state)
+void expect_state(const char *what, const struct state *state)
 {
     if (memcmp(state->record, library.record.at, library.record.bytes) != 0
         || memcmp(state->memory, library.memory.at, library.memory.bytes) != 0
         || memcmp(state->writers, library.writers.at, library.writers.bytes) != 0
         || state->count != *words_of(&library.count))
-        fail("the run and the single steps end in different states");
+        fail("the state is another: %s", what);
 }
 
 void expect_ran(const char *what, const struct ran *ran, const struct ran *right)
@@ -200,6 +229,38 @@ uint64_t compare_reset(uint64_t pins)
     return compare_call(ours, theirs);
 }
 
+/* Each number that a call sets holds noise of its own, so that one that a side does not set is found to
+ * differ. */
+static void put_noise(struct lent *number)
+{
+    uint64_t noise = random64();
+    fill_lent(number, &noise, sizeof noise);
+}
+
+static void prepare_counts(struct side *side)
+{
+    for (size_t v = 0; v < PIXEL_VALUES; v++)
+        put_noise(&side->pixels[v]);
+}
+
+uint64_t compare_counts(uint64_t *counts)
+{
+    note_call("counts", print_lent);
+    prepare_counts(&model);
+    prepare_counts(&library);
+    uint64_t theirs = pcf8820_counts(library.memory.at, call.memory_len,
+                                     words_of(&library.pixels[0]), words_of(&library.pixels[1]),
+                                     words_of(&library.pixels[2]), words_of(&library.pixels[3]));
+    uint64_t ours = model_counts(model.memory.at, call.memory_len,
+                                 words_of(&model.pixels[0]), words_of(&model.pixels[1]),
+                                 words_of(&model.pixels[2]), words_of(&model.pixels[3]));
+    for (size_t v = 0; v < PIXEL_VALUES; v++) {
+        compare_lent("number of pixels", sizeof(uint64_t), &model.pixels[v], &library.pixels[v]);
+        counts[v] = *words_of(&library.pixels[v]);
+    }
+    return compare_call(ours, theirs);
+}
+
 /* Every event that was done has added 1, and a refused one nothing. */
 static void expect_count(uint64_t done)
 {
@@ -225,13 +286,6 @@ uint64_t compare_step(uint16_t event)
     return theirs;
 }
 
-static void put_noise(struct lent *number)
-{
-    uint64_t noise = random64();
-    fill_lent(number, &noise, sizeof noise);
-}
-
-/* Each number holds noise of its own, so that one that a side does not set is found to differ. */
 static void prepare_run(struct side *side, const uint16_t *events, size_t events_len)
 {
     fill_lent(&side->events, events, events_len * sizeof *events);

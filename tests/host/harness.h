@@ -1,7 +1,7 @@
-/* The chip's calls: reset, step and run, made on the library and on the model, and the comparison of
- * everything they give and change.
+/* The chip's calls: reset, counting start, step and run, made on the library and on the model, and the
+ * comparison of everything they give and change.
  *
- * Each side has its own record, memory, writers, count, events and numbers of a run. */
+ * Each side has its own record, memory, writers, count, events, numbers of a run and of a counting start. */
 #ifndef HARNESS_H
 #define HARNESS_H
 
@@ -49,6 +49,15 @@ void set_record(const uint64_t *words);
 /* Gives both sides this count. */
 void set_count(uint64_t count);
 
+/* Puts a byte into the memory of both sides. */
+void set_byte(size_t place, uint8_t byte);
+
+/* Gives both sides the counts of pixels that are true of their memory, counted afresh. */
+void set_true_pixels(void);
+
+/* Fails unless the counts of pixels are true of the memory, counted afresh. */
+void expect_true_pixels(void);
+
 /* A word of the record as it is now. */
 uint64_t word_now(size_t place);
 
@@ -56,14 +65,16 @@ uint64_t word_now(size_t place);
 void save(struct state *state);
 void restore(const struct state *state);
 
-/* Fails unless record, memories and count are now as in this state. */
-void expect_state(const struct state *state);
+/* Fails unless record, memories and count are now as in this state; what says what should have held. */
+void expect_state(const char *what, const struct state *state);
 
 /* Fails unless the numbers of a run are the right ones. */
 void expect_ran(const char *what, const struct ran *ran, const struct ran *right);
 
-/* Make the call on both sides and compare. They give the common result. */
+/* Make the call on both sides and compare. They give the common result. counts: what the counting start
+ * gave, of four values. */
 uint64_t compare_reset(uint64_t pins);
+uint64_t compare_counts(uint64_t *counts);
 uint64_t compare_step(uint16_t event);
 uint64_t compare_run(const uint16_t *events, size_t events_len, struct ran *ran);
 

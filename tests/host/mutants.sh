@@ -13,7 +13,7 @@ mutant 'memory cleared at reset' \
 mutant 'writers cleared at reset' \
     's/^    chip->now\[TR\] = 0;/& if (chip->writers) memset(chip->writers, 0, 8 * PLACES);/'
 mutant 'bank 16 masked before the swap' \
-    's/byte &= 0x3F/(void)0/; s/if (chip->now\[DO\])/if (*y == 16) byte \&= 0x3F; &/'
+    's/byte &= 0x3F/(void)0/; s/if (chip->now\[DO\])/if (chip->now[Y] == 16) byte \&= 0x3F; &/'
 mutant 'endless bytes end after one' \
     's/if (chip->now\[PHASE\] == ONE_BYTE)/if (true)/'
 mutant 'power-down dropped with the address mode' \
@@ -58,7 +58,7 @@ mutant 'unknown told as taken' 's/\.answer = UNKNOWN;/.answer = TAKEN;/'
 mutant 'unknown told as out of range' 's/\.answer = UNKNOWN;/.answer = OUT_OF_RANGE;/'
 mutant 'unknown not acknowledged' 's/\.answer = UNKNOWN;/.answer = NACK;/'
 mutant 'unknown told as taken where another page has the row' \
-    's/^            .*\.answer = UNKNOWN;/& for (int r = 0; r < ROWS; r++) if (matches(rows[r].pattern, byte)) effects[page][byte].answer = TAKEN;/'
+    's/^            .*\.answer = UNKNOWN;/& for (int r = 0; r < TABLE_ROWS; r++) if (matches(rows[r].pattern, byte)) effects[page][byte].answer = TAKEN;/'
 mutant 'out of range told as taken' 's/effect->answer = OUT_OF_RANGE;//'
 mutant 'out of range told as unknown' 's/effect->answer = OUT_OF_RANGE;/effect->answer = UNKNOWN;/'
 mutant 'out of range not acknowledged' 's/effect->answer = OUT_OF_RANGE;/effect->answer = NACK;/'
@@ -81,9 +81,9 @@ mutant 'page return in page 0 told as unknown' \
 mutant 'row block swapping told as unknown' \
     's/^    effect->answer = TAKEN;/    effect->answer = row->page == 4 \&\& byte >= 64 ? UNKNOWN : TAKEN;/'
 mutant 'command that changes nothing told as unknown' \
-    's/^    const struct effect \*effect = .*/& struct chip was = *chip;/; s/return effect->answer;/return memcmp(was.now, chip->now, WORDS) ? TAKEN : effect->answer == TAKEN ? UNKNOWN : effect->answer;/'
+    's/^    const struct effect \*effect = .*/& struct chip was = *chip;/; s/return effect->answer;/return memcmp(was.now, chip->now, sizeof was.now) ? TAKEN : effect->answer == TAKEN ? UNKNOWN : effect->answer;/'
 mutant 'register set to what it held told as unknown' \
-    's/^    const struct effect \*effect = .*/& struct chip was = *chip;/; s/return effect->answer;/return effect->fields \&\& memcmp(was.now, chip->now, WORDS) == 0 ? UNKNOWN : effect->answer;/'
+    's/^    const struct effect \*effect = .*/& struct chip was = *chip;/; s/return effect->answer;/return effect->fields \&\& memcmp(was.now, chip->now, sizeof was.now) == 0 ? UNKNOWN : effect->answer;/'
 mutant 'answer by the page after the command' \
     's/return effect->answer;/return effects[chip->now[H]][byte].answer;/'
 mutant 'answer as in page 0' 's/return effect->answer;/return effects[0][byte].answer;/'
@@ -174,8 +174,126 @@ for number in unknown out_of_range; do
     mutant "write past $number" "s/^    \*$number = [a-z].*/& ${number}[1] = 0;/"
 done
 
+# The counts of pixels.
+mend='/^static bool mend_counts(/,/^}/'
+unfit='is_display_byte(chip, event) \&\& !mend_counts(chip, (uint8_t)event)'
+mutant 'bits 6 and 7 of bank 16 counted' 's/return chip->now\[Y\] == BANKS - 1 ? .*/return ROWS_OF_A_BANK;/'
+mutant 'bits 6 and 7 of bank 16 counted where they leave' \
+    "$mend s/\(\[place_now(chip)\], \)pixels, -1/\1ROWS_OF_A_BANK, -1/"
+mutant 'bits 6 and 7 of bank 16 counted where they join' \
+    "$mend s/\(stored(chip, byte), \)pixels, 1/\1ROWS_OF_A_BANK, 1/"
+mutant 'bits 6 and 7 left out in bank 15, too' 's/return chip->now\[Y\] == BANKS - 1 ?/return chip->now[Y] >= BANKS - 2 ?/'
+mutant 'two rows in bank 16' 's/? ROWS - ROWS_OF_A_BANK/? ROWS - 1 - ROWS_OF_A_BANK/'
+mutant 'what stood there does not leave' "$mend s/^    tally(.*, -1);//"
+mutant 'what is stored does not join' "$mend s/^    tally(.*, 1);//"
+mutant 'leaving and joining exchanged' "$mend { s/pixels, -1/pixels, 9/; s/pixels, 1)/pixels, -1)/; s/pixels, 9/pixels, 1/ }"
+mutant 'counts of the byte as it was sent' "$mend s/stored(chip, byte)/byte/"
+mutant 'counts of the byte without DO' \
+    "$mend s/stored(chip, byte)/chip->now[Y] == BANKS - 1 ? byte \& 0x3F : byte/"
+mutant 'counts of the byte before bank 16 cuts it' \
+    "$mend { s/stored(chip, byte), pixels/chip->now[DO] ? swapped(byte) : byte, ROWS_OF_A_BANK/ }"
+mutant 'counts at place X without the mirror' "$mend s/place_now(chip)/COLUMNS * chip->now[Y] + chip->now[X]/"
+mutant 'counts at the place behind' "$mend s/place_now(chip)/(place_now(chip) + 1) % PLACES/"
+mutant 'values 1 and 2 exchanged' 's/counts\[byte >> 2 \* k & 3\]/counts[(byte >> 2 * k \& 1) * 2 + (byte >> 2 * k + 1 \& 1)]/'
+mutant 'values of DB7 first' 's/counts\[byte >> 2 \* k & 3\]/counts[byte >> 6 - 2 * k \& 3]/'
+mutant '16 pixel by pixel, leaving first' \
+    "$mend s/^    tally(.*, 1);/    for (int v = 0; v < VALUES; v++) if (counts[v] < 0) return false; &/"
+mutant '16 pixel by pixel, joining first' \
+    "$mend { s/^    tally(.*, -1);//; s/^    \(tally(.*, 1);\)/    \1 for (int v = 0; v < VALUES; v++) if (counts[v] > PIXELS) return false; tally(counts, chip->memory[place_now(chip)], pixels, -1);/ }"
+mutant '16 from 6,767 on' 's/counts\[v\] > PIXELS/counts[v] >= PIXELS/'
+mutant '16 from 6,769 on' 's/counts\[v\] > PIXELS/counts[v] > PIXELS + 1/; s/\(\[PIXELS_[0-3]\] = PIXELS\),/\1 + 1,/g; s/if (record\[w\] > limit\[w\])/if (record[w] > limit[w] - (w >= PIXELS_0))/'
+mutant '16 below 1' 's/counts\[v\] < 0/counts[v] < 1/'
+mutant '16 below 0 alone' 's/ || counts\[v\] > PIXELS//'
+mutant '16 above 6,767 alone' 's/counts\[v\] < 0 || //'
+mutant '16 by the sum of the counts' \
+    "$mend s/^    return true;/    int sum = 0; for (int v = 0; v < VALUES; v++) sum += counts[v]; return sum <= PIXELS;/"
+for value in 0 1 2 3; do
+    mutant "16 not for value $value" \
+        "s/if (counts\[v\] < 0/if (v != $value \&\& (counts[v] < 0/; s/counts\[v\] > PIXELS)/&)/"
+    mutant "value $value not mended" "$mend s/= (uint16_t)counts\[v\];/= v == $value ? chip->now[PIXELS_0 + v] : (uint16_t)counts[v];/"
+done
+mutant '16 not looked for' "s/if ($unfit)/if (is_display_byte(chip, event) \&\& !mend_counts(chip, (uint8_t)event) \&\& false)/"
+mutant 'counts cut to their range' \
+    "$mend s/return false;/counts[v] = counts[v] < 0 ? 0 : PIXELS;/"
+mutant 'counts made afresh' \
+    "$mend s/^    return true;/    int now[VALUES] = { 0 }; for (int p = 0; p < PLACES; p++) tally(now, p == (int)place_now(chip) ? stored(chip, byte) : chip->memory[p], p < 16 * COLUMNS ? 4 : 3, 1); for (int v = 0; v < VALUES; v++) chip->now[PIXELS_0 + v] = now[v]; &/"
+mutant '16 before 4' \
+    's/^    if (chip->count == UINT64_MAX)/    struct chip was = *chip; if (is_display_byte(chip, event) \&\& !mend_counts(chip, (uint8_t)event)) return BAD_PIXEL_COUNT; *chip = was; &/'
+mutant '16 before 2' \
+    's/^    if (!load(&chip, record, record_len))/    if (record_len == WORDS \&\& !load(\&chip, record, record_len) \&\& chip.now[Y] < BANKS \&\& chip.now[X] < COLUMNS \&\& record[PHASE] == ENDLESS \&\& record[PIXELS_0] == 0) return BAD_PIXEL_COUNT; &/'
+mutant '16 for commands, too' 's/ && chip->now\[PHASE_RS\] == 1;/;/'
+mutant '16 for ignored bytes, too' 's/bool written = /bool written = chip->now[PHASE] == IGNORING || /; s/ && chip->now\[PHASE_RS\] == 1;/ \&\& (chip->now[PHASE_RS] == 1 || chip->now[PHASE] == IGNORING);/'
+mutant '16 for endless bytes alone' 's/bool written = chip->now\[PHASE\] == ONE_BYTE || /bool written = /'
+mutant '16 for single bytes alone' 's/chip->now\[PHASE\] == ONE_BYTE || chip->now\[PHASE\] == ENDLESS;$/chip->now[PHASE] == ONE_BYTE;/'
+mutant 'counts mended at a refused byte' "$mend s/^            return false;/            { for (int w = 0; w < v; w++) chip->now[PIXELS_0 + w] = (uint16_t)counts[w]; return false; }/"
+mutant 'counts mended at a byte refused by 4' \
+    's/^        return COUNT_FULL;/        return is_display_byte(chip, event) \&\& mend_counts(chip, (uint8_t)event) ? COUNT_FULL : COUNT_FULL;/'
+mutant 'refused byte counted as an event' 's/return BAD_PIXEL_COUNT;/return chip->count++, BAD_PIXEL_COUNT;/; s/if (!is_refusal(result))/if (true)/'
+mutant 'refused byte moves the address' \
+    's/return BAD_PIXEL_COUNT;/return advance(\&chip->now[X], 100, \&chip->now[Y], 16), BAD_PIXEL_COUNT;/; s/if (!is_refusal(result))/if (true)/'
+mutant 'refused byte stored all the same' \
+    's/return BAD_PIXEL_COUNT;/return chip->memory[place_now(chip)] = stored(chip, (uint8_t)event), BAD_PIXEL_COUNT;/'
+mutant 'refused byte ends a single byte' \
+    's/return BAD_PIXEL_COUNT;/{ if (chip->now[PHASE] == ONE_BYTE) chip->now[PHASE] = CONTROL, chip->now[PHASE_RS] = 0; return BAD_PIXEL_COUNT; }/; s/if (!is_refusal(result))/if (true)/'
+mutant 'counts cleared at a reset pulse' 's/^    chip->now\[LAST_RS\] = 0;/& if (chip->memory) memset(\&chip->now[PIXELS_0], 0, VALUES * sizeof chip->now[0]);/'
+mutant 'counts of a cleared memory at a reset pulse' \
+    's/^    chip->now\[LAST_RS\] = 0;/& if (chip->memory) { memset(\&chip->now[PIXELS_0], 0, VALUES * sizeof chip->now[0]); chip->now[PIXELS_0] = PIXELS; }/'
+mutant 'counts of 0 after the reset call' 's/chip.now\[PIXELS_0\] = PIXELS;//'
+mutant 'counts kept by the reset call' \
+    '/^uint64_t model_reset(/,/^}/ s/store(&chip, record);/uint64_t kept = record[PIXELS_3]; & record[PIXELS_3] = kept;/'
+for value in 0 1 2 3; do
+    mutant "count of value $value up to 6,766" "s/\[PIXELS_$value\] = PIXELS/& - 1/"
+    mutant "count of value $value up to 6,768" \
+        "s/if (record\[w\] > limit\[w\])/if (record[w] > limit[w] + (w == PIXELS_$value))/"
+done
+mutant 'run: 16 not looked for' '/^uint64_t model_run(/,/^}/ s/if (is_refusal(result)) {/if (result == BAD_PIXEL_COUNT) continue; &/'
+mutant 'run: earlier counts lost at 16' \
+    '/^uint64_t model_run(/,/^}/ s/^    store(&chip, record);/    uint64_t first[VALUES]; memcpy(first, record + PIXELS_0, sizeof first); & if (refusal == BAD_PIXEL_COUNT) memcpy(record + PIXELS_0, first, sizeof first);/'
+mutant 'run: 16 told as 4' '/^uint64_t model_run(/,/^}/ s/refusal = result;/refusal = result == BAD_PIXEL_COUNT ? COUNT_FULL : result;/'
+
+# What the tests know of counts by themselves.
+common_mutant 'bits 6 and 7 of bank 16 counted' 's/return chip->now\[Y\] == BANKS - 1 ? .*/return ROWS_OF_A_BANK;/'
+common_mutant 'what stood there does not leave' "$mend s/^    tally(.*, -1);//"
+common_mutant 'values 1 and 2 exchanged' 's/counts\[byte >> 2 \* k & 3\]/counts[(byte >> 2 * k \& 1) * 2 + (byte >> 2 * k + 1 \& 1)]/'
+common_mutant 'counts at place X without the mirror' "$mend s/place_now(chip)/COLUMNS * chip->now[Y] + chip->now[X]/"
+common_mutant 'counts of the byte as it was sent' "$mend s/stored(chip, byte)/byte/"
+common_mutant '16 pixel by pixel, leaving first' \
+    "$mend s/^    tally(.*, 1);/    for (int v = 0; v < VALUES; v++) if (counts[v] < 0) return false; &/"
+common_mutant '16 from 6,767 on' 's/counts\[v\] > PIXELS/counts[v] >= PIXELS/'
+common_mutant '16 below 0 alone' 's/ || counts\[v\] > PIXELS//'
+common_mutant '16 above 6,767 alone' 's/counts\[v\] < 0 || //'
+common_mutant '16 before 4' \
+    's/^    if (chip->count == UINT64_MAX)/    struct chip was = *chip; if (is_display_byte(chip, event) \&\& !mend_counts(chip, (uint8_t)event)) return BAD_PIXEL_COUNT; *chip = was; &/'
+common_mutant '16 for commands, too' 's/ && chip->now\[PHASE_RS\] == 1;/;/'
+common_mutant 'counts cleared at a reset pulse' 's/^    chip->now\[LAST_RS\] = 0;/& if (chip->memory) memset(\&chip->now[PIXELS_0], 0, VALUES * sizeof chip->now[0]);/'
+common_mutant 'counts of 0 after the reset call' 's/chip.now\[PIXELS_0\] = PIXELS;//'
+
+# The counting start.
+model=pixels
+common_mutant 'bits 6 and 7 of bank 16 counted at the start' 's/row < ROWS;/row < ROWS + 1;/'
+mutant 'rows of bank 16 left out' 's/row < ROWS;/row < ROWS - 3;/'
+mutant 'bits 6 and 7 of bank 16 counted at the start' 's/row < ROWS;/row < ROWS + 1;/'
+mutant 'column 0 left out' 's/column = 0;/column = 1;/'
+mutant 'column 100 left out' 's/column < COLUMNS/column < COLUMNS - 1/'
+mutant 'values 1 and 2 exchanged at the start' 's/2 \* (byte >> (2 \* k + 1) & 1) + (byte >> (2 \* k) & 1)/(byte >> (2 * k + 1) \& 1) + 2 * (byte >> (2 * k) \& 1)/'
+mutant 'numbers in another order' 's/\*n1 = counts\[1\]/*n1 = counts[2]/; s/\*n2 = counts\[2\]/*n2 = counts[1]/'
+mutant 'shorter memory taken' 's/memory_len == PLACES/memory_len <= PLACES/'
+mutant 'longer memory taken' 's/memory_len == PLACES/memory_len >= PLACES/'
+mutant 'longer memory told as taken' 's/return memory_len == PLACES/return memory_len >= PLACES/'
+mutant 'length not looked at before the memory' 's/if (memory_len == PLACES)/if (memory_len >= PLACES)/'
+mutant 'counts of earlier calls, too' 's/    uint64_t counts\[VALUES\] = { 0 };/    static uint64_t counts[VALUES];/'
+mutant 'counts of 8 bits' 's/uint64_t counts\[VALUES\]/uint8_t counts[VALUES]/'
+for number in 0 1 2 3; do
+    mutant "n$number not set" "s/^    \*n$number = .*//"
+    mutant "n$number not set at refusal 1" "s/^    \*n$number = /    if (memory_len == PLACES) &/"
+    mutant "write past n$number" "s/^    \*n$number = .*/& n$number[1] = 0;/"
+done
+mutant 'memory cut to its pixels' 's/^    \*n0 = .*/& if (memory_len == PLACES) ((uint8_t *)memory)[PLACES - 1] \&= 0x3F;/'
+mutant 'read past the memory' 's/^    \*n0 = .*/& (void)*(volatile const uint8_t *)(memory + memory_len);/'
+model=model
+
 # Outside the buffers.
-mutant 'write past the memory' 's/^    chip->memory\[place\] = byte;/& chip->memory[PLACES] = byte;/'
+mutant 'write past the memory' 's/^    chip->memory\[place\] = .*/& chip->memory[PLACES] = byte;/'
 mutant 'write before the writers' 's/^    chip->writers\[place\] = .*/& chip->writers[-1] = 0;/'
 mutant 'read past the record' \
     's/^    bool phase_has_rs = .*/& (void)*(volatile const uint64_t *)(record + WORDS);/'

@@ -102,13 +102,21 @@ void set_write_mode(uint64_t *words, unsigned mode)
     words[W_DO] = mode >> 2 & 1;
 }
 
-/* By its bytes: four pixels each, those of the last bank three. */
+/* Four pixels, and three in the last bank, from place 16 * 101 on. */
+void add_pixels(uint64_t *counts, size_t place, uint8_t byte)
+{
+    counts[byte & 3]++;
+    counts[byte >> 2 & 3]++;
+    counts[byte >> 4 & 3]++;
+    if (place < 16 * 101)
+        counts[byte >> 6]++;
+}
+
 void set_pixels(uint64_t *words, const uint8_t *memory)
 {
     memset(words + W_PIXELS_0, 0, PIXEL_VALUES * sizeof *words);
     for (size_t place = 0; place < PLACES; place++)
-        for (unsigned bits = 0; bits < (place < 16 * 101 ? 8 : 6); bits += 2)
-            words[W_PIXELS_0 + (memory[place] >> bits & 3)]++;
+        add_pixels(words + W_PIXELS_0, place, memory[place]);
 }
 
 uint16_t unlisted_event(void)

@@ -46,6 +46,9 @@ void set_phase(uint64_t *words, const struct bus_phase *phase);
 /* One of the mixtures of MX, V and DO: how display bytes are written. */
 void set_write_mode(uint64_t *words, unsigned mode);
 
+/* Adds the pixels of a byte in this place of a memory to the counts of their values. */
+void add_pixels(uint64_t *counts, size_t place, uint8_t byte);
+
 /* The counts of pixels become those of this memory, 1,717 bytes, counted afresh. */
 void set_pixels(uint64_t *words, const uint8_t *memory);
 

@@ -7,7 +7,7 @@
 #include <string.h>
 
 static const size_t memory_lens[] = { 0, 1716, 1717, 1718 };
-static const size_t record_lens[] = { 0, 33, 34, 35 };
+static const size_t record_lens[] = { 0, 34, 37, 38, 39 };
 static const uint64_t counts[] = { 5, UINT64_MAX };
 static const uint16_t single_events[] = { 0x55, 256, 260, 600, 261, 768, 65535 };
 

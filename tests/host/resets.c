@@ -9,7 +9,7 @@ static const uint64_t pins[] = {
     UINT64_MAX - 3, UINT64_MAX
 };
 
-static const size_t record_lens[] = { 0, 1, 29, 33, 34, 35 };
+static const size_t record_lens[] = { 0, 1, 29, 34, 35, 37, 38, 39 };
 
 static void reset_noise(uint64_t value)
 {
@@ -17,7 +17,10 @@ static void reset_noise(uint64_t value)
     for (size_t w = 0; w < MOST_WORDS; w++)
         words[w] = random64();
     set_record(words);
-    compare_reset(value);
+    uint64_t result = compare_reset(value);
+    if (result == 0 && (word_now(W_PIXELS_0) != ALL_PIXELS || word_now(W_PIXELS_0 + 1) != 0
+                        || word_now(W_PIXELS_0 + 2) != 0 || word_now(W_PIXELS_0 + 3) != 0))
+        fail("the counts of pixels are not those of a memory of zeros");
 }
 
 static void reset_lengths(enum where where)

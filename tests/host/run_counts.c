@@ -78,6 +78,7 @@ static void set_reset_record(uint64_t count)
     uint64_t words[MOST_WORDS];
     reset_record(words, 0);
     set_record(words);
+    set_true_pixels();
     set_count(count);
 }
 

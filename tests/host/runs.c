@@ -1,6 +1,7 @@
 /* Long random traffic: first step by step, then the same events by run, which must end in the same
  * state and count what the steps answered. Refused events in the middle cut the run; it is then
- * taken up again behind them. */
+ * taken up again behind them. With true counts of pixels, which stay true; and with any counts, by
+ * which display bytes are refused, too. */
 #include "harness.h"
 #include "records.h"
 #include "themes.h"
@@ -165,29 +166,53 @@ static struct ran run_in_parts(void)
     return sum;
 }
 
-static void try_traffic(size_t events, uint64_t refused)
+/* Gives the pins. */
+static uint64_t lend_traffic(bool true_pixels)
 {
-    static struct state before, after;
     uint64_t words[MOST_WORDS];
-
     random_record(words);
     if (below(2))
         reset_record(words, below(4));
     lend_usual();
     set_record(words);
-    make_list(words[W_PINS], events, refused);
+    if (true_pixels)
+        set_true_pixels();
+    return words[W_PINS];
+}
+
+static void try_traffic(size_t events, uint64_t refused, bool true_pixels)
+{
+    static struct state before, after;
+    uint64_t pins = lend_traffic(true_pixels);
+    make_list(pins, events, refused);
 
     save(&before);
     struct ran steps = step_through();
     save(&after);
     restore(&before);
     struct ran runs = run_through();
-    expect_state(&after);
+    expect_state("the runs and the steps", &after);
     expect_ran("the runs against the steps", &runs, &steps);
     restore(&before);
     runs = run_in_parts();
-    expect_state(&after);
+    expect_state("the parts and the steps", &after);
     expect_ran("the parts against the steps", &runs, &steps);
+    if (true_pixels)
+        expect_true_pixels();
+}
+
+/* Counts that are true before an event are true after it, whatever it is; and none is refused. */
+static void try_each(size_t events)
+{
+    uint64_t pins = lend_traffic(true);
+    set_count(0);
+    make_list(pins, events, 0);
+    for (size_t i = 0; i < length; i++) {
+        uint64_t answer = compare_step(list[i]);
+        if (answer < NOTHING)
+            fail("event %u is refused by %llu", list[i], (unsigned long long)answer);
+        expect_true_pixels();
+    }
 }
 
 /* Single runs of any length up to a few hundred, from every kind of record. */
@@ -206,9 +231,11 @@ static void try_short(int times)
 void test_runs(void)
 {
     theme("runs");
-    try_traffic(0, 0);
+    try_traffic(0, 0, true);
     for (int i = 0; i < (quick ? 20 : 400); i++)
-        try_traffic((size_t)below(3000), below(3) ? below(6) : 0);
-    try_traffic(quick ? 5000 : MOST_EVENTS, 0);
+        try_traffic((size_t)below(3000), below(3) ? below(6) : 0, i % 4 != 0);
+    try_traffic(quick ? 5000 : MOST_EVENTS, 0, true);
+    for (int i = 0; i < (quick ? 5 : 40); i++)
+        try_each((size_t)below(1000));
     try_short(quick ? 2000 : 200000);
 }

@@ -1,5 +1,5 @@
 /* What a list is for: its events, played on the chip that it was compiled for, must do what the plain
- * reading says. By a run, and event by event, from any state. */
+ * reading says. By a run, and event by event, from any state with true counts of pixels. */
 #include "compile_calls.h"
 #include "harness.h"
 #include "plain.h"
@@ -29,6 +29,7 @@ static void expect_plain(void)
         if (counts(word) && played.record[word] != plain.record[word])
             fail("register %s: played %llu, plainly read %llu", word_name(word),
                  (unsigned long long)played.record[word], (unsigned long long)plain.record[word]);
+    expect_true_pixels();
 }
 
 static void read_plainly(void)
@@ -66,7 +67,7 @@ static void play_by_steps(const struct compiled *compiled)
         if (answer != right)
             fail("event %zu of the compiler's gets the answer %llu", i, (unsigned long long)answer);
     }
-    expect_state(&played);
+    expect_state("the run and the single steps", &played);
     expect_plain();
 }
 
@@ -86,6 +87,7 @@ static void play(const uint64_t *words, struct way way)
         return;
     lend_usual();
     set_record(words);
+    set_true_pixels();
     if (way.full_count)
         set_count(UINT64_MAX - compiled.length);
     save(&before);

@@ -6,7 +6,7 @@
 
 #include <string.h>
 
-static const size_t record_lens[] = { 0, 1, 33, 34, 35 };
+static const size_t record_lens[] = { 0, 1, 34, 37, 38, 39 };
 
 /* The texts, each with one more fault than those before it. */
 enum { EMPTY, GOOD, FRAGMENT, MALFORMED, OUT_OF_RANGE, LATE, TOO_LONG, TOO_LONG_AND_BAD, TEXTS };

@@ -7,7 +7,7 @@
 #include <string.h>
 
 static const size_t memory_lens[] = { 0, 1, 1716, 1717, 1718 };
-static const size_t record_lens[] = { 0, 1, 33, 34, 35 };
+static const size_t record_lens[] = { 0, 1, 34, 37, 38, 39 };
 
 static const uint64_t rows[] = {
     0, 3, 66, 67, 68, 100, 101, 127, 128, 255, 256, 256 + 66, 65535, 65536, 65536 + 66,

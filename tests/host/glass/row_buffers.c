@@ -8,7 +8,7 @@ static const size_t out_lens[] = {
 };
 
 static const size_t memory_lens[] = { 0, 1716, 1717, 1718 };
-static const size_t record_lens[] = { 0, 33, 34, 35 };
+static const size_t record_lens[] = { 0, 34, 37, 38, 39 };
 
 static const uint64_t rows[] = {
     0, 33, 66, 67, 100, 255, 256, 65536, 0xFFFFFFFFu, 0x100000000u, 0x100000000u + 66,
