@@ -1,6 +1,7 @@
 /* A host in C++. One of its four chips gets an event that the bus does not get; from then on the bus
- * refuses every event, until all four are made idle in one of the two ways that the header tells. Then
- * it reads the wires, one event at a time. */
+ * refuses every event, until all four are made idle in one of the two ways that the header tells. It
+ * brings a memory of its own, and counts its pixels when a display byte is refused. Then it reads the
+ * wires, one event at a time. */
 #include "pcf8820.h"
 
 #include <cstdio>
@@ -61,6 +62,34 @@ static void stop_chip(int c)
     expect_on_bus("reset pulse after it", PCF8820_EVENT_RESET, PCF8820_REFUSED_CHIPS);
 }
 
+static void expect_pixels(const char *what, uint64_t n0, uint64_t n1, uint64_t n2, uint64_t n3)
+{
+    const uint64_t *pixels = records[0] + PCF8820_WORD_PIXELS_0;
+    expect(what, pixels[0], n0);
+    expect(what, pixels[1], n1);
+    expect(what, pixels[2], n2);
+    expect(what, pixels[3], n3);
+}
+
+/* Chip 0 is in the middle of a write. Every pixel of its memory becomes 3, which the counts do not know:
+ * by them there is no pixel that a byte of zeros could take away. */
+static void count_pixels()
+{
+    uint64_t *pixels = records[0] + PCF8820_WORD_PIXELS_0;
+    expect_pixels("pixels after reset", PCF8820_PIXELS, 0, 0, 0);
+    for (int place = 0; place < PCF8820_PLACES; place++)
+        memories[0][place] = 0xFF;
+    expect_on_bus("display byte with untrue counts", 0x00, PCF8820_REFUSED_PIXEL_COUNT);
+    expect("a short memory", pcf8820_counts(memories[0], PCF8820_PLACES - 1, &pixels[0], &pixels[1], &pixels[2], &pixels[3]),
+           PCF8820_REFUSED_MEMORY);
+    expect_pixels("pixels of a short memory", 0, 0, 0, 0);
+    expect("counts", pcf8820_counts(memories[0], PCF8820_PLACES, &pixels[0], &pixels[1], &pixels[2], &pixels[3]),
+           PCF8820_DONE);
+    expect_pixels("pixels counted", 0, 0, 0, PCF8820_PIXELS);
+    expect_on_bus("display byte with true counts", 0x00, PCF8820_ANSWER_ACKNOWLEDGED);
+    expect_pixels("pixels after the byte", 4, 0, 0, PCF8820_PIXELS - 4);
+}
+
 /* START, 78h, acknowledged, and STOP. */
 static const uint8_t samples[] = {
     3, 2, 0, 2, 0, 1, 3, 1, 3, 1, 3, 1, 3, 1, 0, 2, 0, 2, 0, 2, 0, 2, 0, 2, 3
@@ -112,6 +141,7 @@ int main()
     stop_chip(0);
     reset_all();
     begin_message();
+    count_pixels();
     read_wires();
     refuse_wires();
     std::puts("C++ host: as the header says");

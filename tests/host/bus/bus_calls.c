@@ -110,6 +110,32 @@ void bus_count(uint64_t count)
     *words_of(&library.count) = count;
 }
 
+void bus_byte(size_t chip, size_t place, uint8_t byte)
+{
+    model.chip[chip].memory.at[place] = byte;
+    library.chip[chip].memory.at[place] = byte;
+}
+
+void bus_true_pixels(void)
+{
+    for (size_t c = 0; c < CHIPS; c++) {
+        set_pixels(words_of(&model.chip[c].record), library.chip[c].memory.at);
+        set_pixels(words_of(&library.chip[c].record), library.chip[c].memory.at);
+    }
+}
+
+void expect_true_pixels(void)
+{
+    uint64_t words[MOST_WORDS];
+    for (size_t c = 0; c < CHIPS; c++) {
+        set_pixels(words, library.chip[c].memory.at);
+        for (size_t word = W_PIXELS_0; word < RECORD_LEN; word++)
+            if (bus_word(c, word) != words[word])
+                fail("chip %zu: %s is %llu, counted afresh %llu", c, word_name(word),
+                     (unsigned long long)bus_word(c, word), (unsigned long long)words[word]);
+    }
+}
+
 uint64_t bus_word(size_t chip, size_t word)
 {
     return words_of(&library.chip[chip].record)[word];

@@ -23,7 +23,10 @@ enum { START = 256, STOP, READ_ACK, READ_NACK, RESET_PULSE, SENSOR = 512 };
 
 enum { NOTHING = 256, ACK, NACK, COMMAND_TAKEN, BYTE_READ = 512 };
 
-enum { BAD_MEMORY = 1, BAD_RECORD = 2, BAD_EVENT = 3, COUNT_FULL = 4, BAD_BUS = 12, BAD_PINS = 13 };
+enum {
+    BAD_MEMORY = 1, BAD_RECORD = 2, BAD_EVENT = 3, COUNT_FULL = 4, BAD_BUS = 12, BAD_PINS = 13,
+    BAD_PIXEL_COUNT = 16
+};
 
 /* The lengths of one chip's buffers. */
 struct lengths {
@@ -55,6 +58,15 @@ void bus_lend_usual(void);
 /* Gives both sides this record for a chip, as many words as the lent one has. words has MOST_WORDS. */
 void bus_record(size_t chip, const uint64_t *words);
 void bus_count(uint64_t count);
+
+/* Puts a byte into a chip's memory on both sides. */
+void bus_byte(size_t chip, size_t place, uint8_t byte);
+
+/* Gives both sides the counts of pixels that are true of each chip's memory, counted afresh. */
+void bus_true_pixels(void);
+
+/* Fails unless the counts of pixels of each chip are true of its memory, counted afresh. */
+void expect_true_pixels(void);
 
 /* A word of a chip's record, and the count, as they are now. */
 uint64_t bus_word(size_t chip, size_t word);

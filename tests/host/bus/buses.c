@@ -50,6 +50,12 @@ void random_bus(unsigned standing)
     bus_count(random_count());
 }
 
+void random_true_bus(unsigned standing)
+{
+    random_bus(standing);
+    bus_true_pixels();
+}
+
 size_t chip_of(uint64_t pins)
 {
     for (size_t c = 0; c < CHIPS; c++)

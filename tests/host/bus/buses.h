@@ -21,6 +21,9 @@ void set_records(uint64_t words[CHIPS][MOST_WORDS]);
 /* The same, of random records and a random count. */
 void random_bus(unsigned standing);
 
+/* The same, with true counts of pixels: no display byte is refused. */
+void random_true_bus(unsigned standing);
+
 /* The chip that has these pins now. */
 size_t chip_of(uint64_t pins);
 

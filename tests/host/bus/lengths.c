@@ -3,11 +3,11 @@
 #include "buses.h"
 #include "themes.h"
 
-enum { KINDS = 3, LENGTHS = 3, BUFFERS = CHIPS * KINDS, ODD = BUFFERS * LENGTHS };
+enum { KINDS = 3, LENGTHS = 4, BUFFERS = CHIPS * KINDS, ODD = BUFFERS * LENGTHS };
 
-/* A record of 35 words is one of the time when the count stood in it. */
+/* A record of 34 words is one of the time before it had counts of pixels. */
 static const size_t odd_lengths[KINDS][LENGTHS] = {
-    { 0, RECORD_LEN - 1, RECORD_LEN + 1 }, { 0, PLACES - 1, PLACES + 1 }, { 0, PLACES - 1, PLACES + 1 }
+    { 0, 34, RECORD_LEN - 1, RECORD_LEN + 1 }, { 0, 1, PLACES - 1, PLACES + 1 }, { 0, 1, PLACES - 1, PLACES + 1 }
 };
 
 /* Gives the refusal of this length: that of a record is 2, that of a memory 1. */

@@ -15,6 +15,7 @@ int main(int argc, char **argv)
     test_events();
     test_sensors();
     test_counts();
+    test_pixels();
     test_traffic();
     test_alone();
     test_apart();

@@ -65,7 +65,7 @@ mutant 'reading not counted' 's/\*count += 1;/if (!is_reading(event)) &/'
 mutant 'byte that no chip takes not counted' 's/\*count += 1;/if (answer != NACK) &/'
 mutant 'read not counted' 's/\*count += 1;/if (answer < BYTE_READ) &/'
 mutant 'count cleared at reset' 's/\*count += 1;/& if (event == RESET_PULSE) *count = 0;/'
-for number in 1 2 12 3 13 4; do
+for number in 1 2 12 3 13 4 16; do
     mutant "event refused by $number counted" "s/^        return refusal;/        return *count += refusal == $number, refusal;/"
 done
 mutant 'last event number not given' 's/count == UINT64_MAX/count >= UINT64_MAX - 1/'
@@ -108,9 +108,16 @@ for bits in 8 16 32; do
 done
 mutant 'a reading of 255 no reading' 's/event < SENSOR + 256/event < SENSOR + 255/'
 
-# The order: 1, 2, 12, 3, 13, 4. Where just two faults are there, the later one is given. 3 and 13 are
-# never there together.
+# The order: 1, 2, 12, 3, 13, 4, 16. Where just two faults are there, the later one is given. 3, 13 and 16
+# are of different events, and never there together.
 long_records='chips[0].record_len >= WORDS \&\& chips[1].record_len >= WORDS \&\& chips[2].record_len >= WORDS \&\& chips[3].record_len >= WORDS'
+
+# A display byte for a chip that has no pixels by its counts. No memory is looked at, as it may be too short.
+unfit=false
+for chip in 0 1 2 3; do
+    record="chips[$chip].record"
+    unfit="$unfit || (${record}[PHASE] >= ONE_BYTE \&\& ${record}[PHASE] <= ENDLESS \&\& ${record}[PHASE_RS] == 1 \&\& ${record}[PIXELS_0] + ${record}[PIXELS_1] + ${record}[PIXELS_2] + ${record}[PIXELS_3] == 0)"
+done
 
 # fault NUMBER: when it is there.
 fault() {
@@ -121,13 +128,14 @@ fault() {
     3) echo '!model_listed(event)' ;;
     13) echo '(is_reading(event) \&\& pins > LAST_PINS)' ;;
     4) echo '(count == UINT64_MAX)' ;;
+    16) echo "(event < 256 \&\& $long_records \&\& ($unfit))" ;;
     esac
 }
 
 # swapped EARLY LATE
 swapped() {
     both=true
-    for number in 1 2 12 3 13 4; do
+    for number in 1 2 12 3 13 4 16; do
         case $number in
         "$1" | "$2") both="$both \&\& $(fault $number)" ;;
         *) both="$both \&\& !$(fault $number)" ;;
@@ -136,11 +144,33 @@ swapped() {
     mutant "$2 before $1" "s/^    if (!good_memories(chips))/    if ($both) return $2; &/"
 }
 
-for late in 2 12 3 13 4; do swapped 1 $late; done
-for late in 12 3 13 4; do swapped 2 $late; done
-for late in 3 13 4; do swapped 12 $late; done
+for late in 2 12 3 13 4 16; do swapped 1 $late; done
+for late in 12 3 13 4 16; do swapped 2 $late; done
+for late in 3 13 4 16; do swapped 12 $late; done
 swapped 3 4
 swapped 13 4
+swapped 4 16
+
+# 16.
+in_fit='/^static bool pixels_fit(/,/^}/'
+mutant '16 not looked for' 's/if (!pixels_fit(chips, event))/if (false)/'
+mutant '16 told as 4' 's/return BAD_PIXEL_COUNT;/return COUNT_FULL;/'
+mutant '16 for every byte to a chip that is addressed' \
+    "$in_fit s/if (!model_pixels_fit(/if (event < 256 \&\& chips[c].record[PHASE] > IGNORING || !model_pixels_fit(/"
+mutant '16 by the counts of any chip' \
+    's/^    if (!pixels_fit(chips, event))/    bool data = false, few = false; for (int c = 0; c < CHIPS; c++) { data |= chips[c].record[PHASE_RS] == 1; few |= chips[c].record[PIXELS_0] < 4; } if ((event < 256 \&\& data \&\& few) || !pixels_fit(chips, event))/'
+for chip in 0 1 2 3; do
+    mutant "16 not for chip $chip" "$in_fit s/if (!model_pixels_fit(/if (c != $chip \&\& !model_pixels_fit(/"
+    mutant "16 for chip $chip alone" "$in_fit s/if (!model_pixels_fit(/if (c == $chip \&\& !model_pixels_fit(/"
+done
+mutant '16 by the memory of the next chip' "$in_fit s/chips\[c\].memory, event/chips[(c + 1) % CHIPS].memory, event/"
+mutant '16 not for single bytes' "$in_fit s/if (!model_pixels_fit(/if (chips[c].record[PHASE] != ONE_BYTE \&\& !model_pixels_fit(/"
+mutant 'counts of the next chip moved, too' \
+    "$in_byte s/^        uint64_t answer/        if (chips[c].record[PHASE] == ENDLESS \&\& chips[c].record[PHASE_RS] \&\& chips[(c + 1) % CHIPS].record[PIXELS_3] > 0) chips[(c + 1) % CHIPS].record[PIXELS_3]--; &/"
+mutant 'counts cleared at a reset pulse of the bus' \
+    "$in_all s/^        give(.*/        { give(\&chips[c], count, event); if (event == RESET_PULSE) chips[c].record[PIXELS_1] = 0; }/"
+mutant 'counts of all chips added up' \
+    's/^    \*count += 1;/& if (event == STOP) record0[PIXELS_0] = (record0[PIXELS_0] + record1[PIXELS_0]) % 6768;/'
 
 # 1 and 2, chip by chip.
 for chip in 0 1 2 3; do
@@ -162,11 +192,13 @@ mutant 'write past a memory' 's/\*count += 1;/& memory2[PLACES] = 0;/'
 mutant 'write before the writers' 's/\*count += 1;/& writers3[-1] = 0;/'
 mutant 'write past a record' 's/\*count += 1;/& record0[WORDS] = 0;/'
 mutant 'read past a record' 's/\*count += 1;/& (void)*(volatile const uint64_t *)(record1 + WORDS);/'
-for number in 1 2 12 3 13 4; do
+for number in 1 2 12 3 13 4 16; do
     mutant "record changed at refusal $number" \
         "s/^        return refusal;/        return refusal == $number ? record2[LAST_RS] ^= 1, refusal : refusal;/"
     mutant "memory changed at refusal $number" \
         "s/^        return refusal;/        return refusal == $number ? memory3[PLACES - 1] ^= 1, refusal : refusal;/"
+    mutant "counts of pixels changed at refusal $number" \
+        "s/^        return refusal;/        return refusal == $number \&\& record3_len == WORDS ? record3[PIXELS_2] ^= 1, refusal : refusal;/"
     mutant "writers changed at refusal $number" \
         "s/^        return refusal;/        return refusal == $number ? writers1[0] ^= 1, refusal : refusal;/"
 done

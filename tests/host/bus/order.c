@@ -1,13 +1,18 @@
-/* The order of the refusals: 1, 2, 12, 3, 13, 4. Every set of faults at once, each fault of any chip and
- * of any kind; the first in this order is the one that is given. */
+/* The order of the refusals: 1, 2, 12, 3, 13, 4, 16. Every set of faults at once, each fault of any chip
+ * and of any kind; the first in this order is the one that is given. 16 is a fault of a display byte, so
+ * that it is never there with 3 and 13, which are of other events. */
 #include "buses.h"
 #include "themes.h"
 
+#include <string.h>
+
+enum { UNFIT_BYTE = 0xFF };
+
 /* The faults, in the order in which they are looked for. */
-enum { MEMORY, RECORD, BUS, EVENT, SENSOR_PINS, COUNT, FAULTS };
+enum { MEMORY, RECORD, BUS, EVENT, SENSOR_PINS, COUNT, PIXEL_COUNT, FAULTS };
 
 static const uint64_t refusals[FAULTS] = {
-    BAD_MEMORY, BAD_RECORD, BAD_BUS, BAD_EVENT, BAD_PINS, COUNT_FULL
+    BAD_MEMORY, BAD_RECORD, BAD_BUS, BAD_EVENT, BAD_PINS, COUNT_FULL, BAD_PIXEL_COUNT
 };
 
 static bool has(unsigned faults, unsigned fault)
@@ -45,12 +50,28 @@ static void misfit(uint64_t words[CHIPS][MOST_WORDS])
     set_phase(words[other], &bus_phases[3 + below(PAST_PHASES)]);
 }
 
+/* One chip awaits display bytes. In its cell is a byte of four pixels 0, and by its counts it has no
+ * pixel at all, so that a byte of four pixels 3 does not fit. */
+static void unfit(uint64_t words[CHIPS][MOST_WORDS])
+{
+    size_t chip = (size_t)below(CHIPS);
+    for (size_t c = 0; c < CHIPS; c++)
+        set_phase(words[c], &bus_phases[2]);
+    set_phase(words[chip], &bus_phases[below(2) ? 5 : 7]);
+    words[chip][W_X] = 50;
+    words[chip][W_Y] = below(16);
+    bus_byte(chip, 101 * words[chip][W_Y] + 50, 0x00);
+    memset(words[chip] + W_PIXELS_0, 0, PIXEL_VALUES * sizeof words[chip][0]);
+}
+
 /* A word of the register part above its limit, so that pins and phases stay as they are. */
 static void set_records_for(unsigned faults)
 {
     uint64_t words[CHIPS][MOST_WORDS];
     size_t word = (size_t)below(W_OC + 1);
     random_records(words, (unsigned)below(STANDINGS));
+    if (has(faults, PIXEL_COUNT))
+        unfit(words);
     if (has(faults, BUS))
         misfit(words);
     if (has(faults, RECORD))
@@ -61,9 +82,10 @@ static void set_records_for(unsigned faults)
 /* Pins above 3 are a fault of a sensor reading alone. */
 static void try_faults(unsigned faults)
 {
-    uint16_t event = (uint16_t)below(RESET_PULSE + 1);
+    bool display = has(faults, PIXEL_COUNT);
+    uint16_t event = display ? UNFIT_BYTE : (uint16_t)below(RESET_PULSE + 1);
     uint64_t pins = has(faults, SENSOR_PINS) ? odd_pins[4 + below(ODD_PINS - 4)] : below(4);
-    bool reading = has(faults, SENSOR_PINS) || below(2);
+    bool reading = has(faults, SENSOR_PINS) || (!display && below(2));
     if (reading)
         event = (uint16_t)(SENSOR + below(256));
     if (has(faults, EVENT))

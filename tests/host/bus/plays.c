@@ -1,5 +1,6 @@
 /* Drawing lists on a bus: four lists, each compiled for one chip's record, played one after the other.
- * Each chip comes out as the plain reading of its own list says, whatever the phases were before. */
+ * Each chip comes out as the plain reading of its own list says, whatever the phases were before, where
+ * the counts of pixels are true. */
 #include "buses.h"
 #include "lists.h"
 #include "pcf8820.h"
@@ -114,6 +115,7 @@ static void play_four(bool full_count)
     size_t first = (size_t)below(CHIPS);
     for (size_t i = 0; i < CHIPS; i++)
         play((first + i) % CHIPS);
+    expect_true_pixels();
     if (full_count)
         expect_bus(START, 0, COUNT_FULL);
 }
@@ -121,7 +123,7 @@ static void play_four(bool full_count)
 static void try_lists(unsigned standing, uint64_t most_lines, bool full_count)
 {
     bus_lend_usual();
-    random_bus(standing);
+    random_true_bus(standing);
     for (size_t c = 0; c < CHIPS; c++)
         random_list(&texts[c], below(most_lines + 1));
     play_four(full_count);
@@ -142,6 +144,7 @@ static void try_pages(unsigned standing)
             add_random_set(&texts[c]);
         }
         set_records(words);
+        bus_true_pixels();
         play_four(page % 2 == 0);
     }
 }

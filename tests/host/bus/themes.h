@@ -8,6 +8,7 @@ void test_order(void);
 void test_events(void);
 void test_sensors(void);
 void test_counts(void);
+void test_pixels(void);
 void test_traffic(void);
 void test_alone(void);
 void test_apart(void);
