@@ -60,6 +60,10 @@ mutant 'line left as it was' 's/^    \*line = 0;//'
 mutant 'lines looked at before record' \
     's/if (!model_allowed(record, record_len))/if (list_refusal(text, text_len, line)) return list_refusal(text, text_len, line); &/'
 mutant 'record not looked at' 's/!model_allowed(record, record_len)/record_len != WORDS/'
+mutant 'counts of pixels not looked at' \
+    's/if (!model_allowed(record, record_len))/uint64_t as[WORDS]; if (record_len == WORDS) for (int w = 0; w < WORDS; w++) as[w] = w < PIXELS_0 ? record[w] : 0; if (!model_allowed(as, record_len))/'
+mutant 'counts of pixels that do not add up refused' \
+    's/if (!model_allowed(record, record_len))/if (!model_allowed(record, record_len) || record[PIXELS_0] + record[PIXELS_1] + record[PIXELS_2] + record[PIXELS_3] != PIXELS)/'
 
 # The output.
 mutant 'output written before 10 is known' \

@@ -18,7 +18,7 @@ mutant 'mirror Y ignored' 's/record\[MY\] ? ROWS - 1 - row : row/row/'
 mutant 'mirror Y about 67' 's/ROWS - 1 - row : row/ROWS - (row ? row : 1) : row/'
 mutant 'mirror Y about 63' 's/ROWS - 1 - row : row/row < 64 ? 63 - row : row : row/'
 mutant 'mirror Y not applied to the place' 's/place_of(ram_row(record, row), column)/place_of(row, column)/'
-mutant 'eight rows in a bank' 's/ROWS_OF_A_BANK = 4/ROWS_OF_A_BANK = 8/'
+mutant 'eight rows in a bank' 's/ROWS_OF_A_BANK/8/g'
 mutant 'higher bit worth 1' 's/2 \* high + low/high + 2 * low/'
 mutant 'rows of a bank from the highest bits down' 's/unsigned k = ram_row/unsigned k = 3 - ram_row/'
 
@@ -60,6 +60,12 @@ mutant 'record looked at before memory' \
 mutant 'row looked at before record' \
     's/if (!model_allowed(record, record_len))/if (on_the_glass(row, column) \&\& !model_allowed(record, record_len))/'
 mutant 'record not looked at' 's/!model_allowed(record, record_len)/record_len != WORDS/'
+for call in glass place; do
+    mutant "$call: counts of pixels not looked at" \
+        "/^uint64_t model_$call(/,/^}/ s/if (!model_allowed(record, record_len))/uint64_t as[WORDS]; if (record_len == WORDS) for (int w = 0; w < WORDS; w++) as[w] = w < PIXELS_0 ? record[w] : 0; if (!model_allowed(as, record_len))/"
+done
+mutant 'glass: counts of 16 bits' \
+    '/^uint64_t model_glass(/,/^}/ s/if (!model_allowed(record, record_len))/uint64_t as[WORDS]; if (record_len == WORDS) for (int w = 0; w < WORDS; w++) as[w] = w < PIXELS_0 ? record[w] : (uint16_t)record[w]; if (!model_allowed(as, record_len))/'
 mutant 'no place on a dark glass' \
     's/^    return PLACE +/    if (record[PD]) return DARK; return PLACE +/'
 
