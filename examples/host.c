@@ -1,5 +1,6 @@
 /* A small host: it draws, plays the drawing on a chip, and asks what the glass shows, who wrote it,
- * and how the four frames build it. Then it sends commands that the chip does not take.
+ * how many pixels have each value, and how the four frames build a level. Then it sends commands that
+ * the chip does not take.
  *
  * Build and run, from the project's root:
  *
@@ -116,6 +117,14 @@ static void print_writer(uint64_t row, uint64_t column)
         printf("event %llu, byte %u\n", (unsigned long long)writer, memory[place]);
 }
 
+/* The chip keeps the counts in its record: they began with a memory of zeros, and are read, not counted. */
+static void print_counts(void)
+{
+    const uint64_t *pixels = record + PCF8820_WORD_PIXELS_0;
+    printf("pixels of value 0: %llu, 1: %llu, 2: %llu, 3: %llu\n", (unsigned long long)pixels[0],
+           (unsigned long long)pixels[1], (unsigned long long)pixels[2], (unsigned long long)pixels[3]);
+}
+
 /* A number below PCF8820_PULSES says why there are none. */
 static void print_pulses(uint64_t row, uint64_t column)
 {
@@ -173,6 +182,7 @@ int main(void)
     print_writer(5, 12);
     print_writer(8, 6);
     print_writer(0, 0);
+    print_counts();
     print_pulses(6, 12);
     print_pulses(8, 6);
     print_frames(6);

@@ -1,6 +1,7 @@
 /* Two messages of a terminal that counts columns from 1: what its X commands are answered. */
 #include <inttypes.h>
 #include <stdio.h>
+#include <string.h>
 #include "pcf8820.h"
 
 enum { RECORD = PCF8820_RECORD_WORDS, CELLS = PCF8820_PLACES, EVENTS = 22 };
@@ -23,8 +24,9 @@ int main(void)
             printf("%d is answered by %" PRIu64 "\n", events[i], answer);
     }
 
-    /* The same events in one run, on a chip after reset. */
+    /* The same events in one run, on a chip after reset, whose pixel counts are those of zeros. */
     pcf8820_reset(record, RECORD, 0);
+    memset(memory, 0, sizeof memory);
     count = 0;
     pcf8820_run(record, RECORD, memory, CELLS, writers, CELLS, &count, events, EVENTS, &done,
                 &unknown, &out_of_range);

@@ -4,7 +4,7 @@ import random
 import pairs
 import texts
 from sides import Difference
-from texts import COLUMNS
+from texts import BANKS, COLUMNS
 
 ROWS = 67
 DARK, UNDRIVEN = b"0 0 96", b"96 64 0"
@@ -69,6 +69,21 @@ def registers(sides):
               [len(trace), len(bytes_sent) - not_acknowledged, not_acknowledged], "the counts")
 
 
+def counted(listing):
+    """How many pixels have each value, by the cells of a listing: a cell that is not listed holds 0."""
+    values = [byte >> 2 * row & 3 for _, bank, byte, _ in listing for row in range(4 if bank < BANKS - 1 else 3)]
+    counts = [values.count(value) for value in range(4)]
+    return [counts[0] + ROWS * COLUMNS - sum(counts)] + counts[1:]
+
+
+def counts(sides):
+    """The counts of pixels that the state tells are those of the cells that are listed."""
+    for _, data in good_captures(sides, 74):
+        listing = [tuple(map(int, row)) for row in lines(sides.same(["replay"], data).output)[1:]]
+        state = dict(lines(sides.same(["state"], data).output))
+        agree(sides, [int(state[f"pixels {value}"]) for value in range(4)], counted(listing), "the counts of pixels")
+
+
 def shown(colour):
     """What a pixel of this colour shows."""
     if colour in (DARK, UNDRIVEN):
@@ -104,4 +119,4 @@ def pixels(sides):
                 agree(sides, data.decode().splitlines()[int(told["line"]) - 1], byte, "the line of a pixel's event")
 
 
-THEMES = [cells, registers, pixels]
+THEMES = [cells, registers, counts, pixels]

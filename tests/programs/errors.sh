@@ -53,7 +53,7 @@ mutant 'empty capture taken' \
     's/^        return lines;/        return reader.length == 0 ? 0 : lines;/'
 mutant 'pins 4 taken as 0' 's/return number_from(reader, next_byte(reader));/{ unsigned n = number_from(reader, next_byte(reader)); return n == 4 ? 0 : n; }/'
 mutant 'pins ignored' 's/return number_from(reader, next_byte(reader));/return number_from(reader, next_byte(reader)) < 4 ? 0 : BAD_LINE;/'
-mutant 'pins line not asked for' 's/pins_line(&reader)) != 0/pins_line(\&reader)) != 0 \&\& false/'
+mutant 'pins line not asked for' 's/!start(played, pins_line(&reader))/& \&\& false/'
 mutant 'word of the pins line not looked at' "s/next_byte(reader) != \*word/next_byte(reader) == 10/"
 mutant 'memory not cleared' 's/memset(played, 0, sizeof \*played);/memset(played, 1, sizeof *played);/'
 mutant 'last event lost' \
@@ -125,7 +125,7 @@ mutant 'registers left out where a cell differs' \
     's/^    print_registers(&first/    if (!__builtin_memcmp(first.memory, second.memory, PLACES)) &/'
 mutant 'first register only' \
     's/^    for (int word/    bool told = false; &/; s/if (\(first->record.*\))/for (; \1 \&\& !told; told = true)/'
-for word in SA TR LAST_RS PHASE; do
+for word in SA TR LAST_RS PHASE PIXELS_0 PIXELS_3; do
     mutant "$word compared too" \
         "s/register_names\[word\]/word > OC ? \"$word\" : &/; s/word <= OC; word++/word <= $word; word += word == OC ? $word - OC : 1/"
 done

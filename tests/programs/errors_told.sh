@@ -91,8 +91,26 @@ mutant 'registers without a name in lists last' \
 mutant 'registers at reset left out' 's/^        print_number(register_names/        if (record[word]) &/'
 mutant 'blanks for tabs' 's/"%s.t%"/"%s %"/'
 mutant 'name with an underscore' 's/"last rs"/"last_rs"/'
+mutant 'counts of pixels left out' 's/^    print_number("pixels [0-3]".*//'
+mutant 'count of value 3 left out' 's/^    print_number("pixels 3".*//'
+mutant 'counts of values 1 and 2 exchanged' 's/record\[PIXELS_1\]/record[WORDS]/; s/record\[PIXELS_2\]/record[PIXELS_1]/; s/record\[WORDS\]/record[PIXELS_2]/'
+mutant 'counts of pixels from value 3 on' 's/"pixels 0", record\[PIXELS_0\]/"pixels 3", record[PIXELS_3]/; t; s/"pixels 3", record\[PIXELS_3\]/"pixels 0", record[PIXELS_0]/'
+mutant 'counts of pixels before the bytes acknowledged' \
+    's/^    print_number("count".*/& print_number("pixels 0", record[PIXELS_0]);/; s/^    print_number("pixels 0".*//'
+mutant 'counts of pixels with an underscore' 's/"pixels \([0-3]\)"/"pixels_\1"/'
+mutant 'counts of 8 bits told' 's/record\[PIXELS_0\]/(uint8_t)record[PIXELS_0]/'
 mutant 'refused capture told' 's/printf("refused.*/print_state(\&played);/'
 mutant 'state before a refusal' 's/printf("refused/print_state(\&played), &/'
+
+model=model
+mutant 'what stood there does not leave' 's/^    tally(.*, -1);//'
+mutant 'counts of the byte as it was sent' 's/tally(counts, stored(chip, byte)/tally(counts, byte/'
+mutant 'counts at place X without the mirror' 's/tally(counts, chip->memory\[place_now(chip)\]/tally(counts, chip->memory[COLUMNS * chip->now[Y] + chip->now[X]]/'
+mutant 'counts of a cleared memory at a reset pulse' \
+    's/^    chip->now\[LAST_RS\] = 0;/& if (chip->memory) { memset(\&chip->now[PIXELS_0], 0, VALUES * sizeof chip->now[0]); chip->now[PIXELS_0] = PIXELS; }/'
+
+model=pixels
+mutant 'counting start of the first 64 rows' 's/row < ROWS;/row < ROWS - 3;/'
 
 model=names
 mutant 'dof called do' 's/"dof"/"do"/'

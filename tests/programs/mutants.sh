@@ -62,7 +62,7 @@ holds() {
 build_model() {
     rm -rf "$out"
     mkdir -p "$out/objects" "$out/model" "$out/tried"
-    for part in $programs wires_program capture names program compile plain list model glass; do
+    for part in $programs wires_program capture names program compile plain list model pixels glass; do
         # shellcheck disable=SC2086
         "$cc" $flags -c "tests/model/$part.c" -o "$out/objects/$part.o"
     done

@@ -1,4 +1,4 @@
-"""Themes of `state`: the chip at the end of a capture, and how many bytes were acknowledged."""
+"""Themes of `state`: the chip at the end of a capture, how many bytes were acknowledged, and the counts of pixels."""
 import random
 
 import captures
@@ -9,7 +9,8 @@ from texts import READ_ACK, READ_NACK, RESET, SENSOR, START, STOP
 STATE = ["state"]
 
 # Behind the registers, after reset and no event.
-REST = {"pins": 0, "status": 0, "last rs": 0, "phase": "idle", "count": 0, "acknowledged": 0, "not acknowledged": 0}
+REST = {"pins": 0, "status": 0, "last rs": 0, "phase": "idle", "count": 0, "acknowledged": 0, "not acknowledged": 0,
+        "pixels 0": 6767, "pixels 1": 0, "pixels 2": 0, "pixels 3": 0}
 AT_RESET = {row[0]: row[1] for row in pairs.REGISTERS} | REST
 
 
@@ -21,6 +22,10 @@ def exactly(sides, events, pins=0, **values):
     sides.exactly(STATE, texts.capture(events, pins), b"".join(texts.line(*pair) for pair in state.items()))
 
 
+def pixels(*counts):
+    return {f"pixels_{value}": count for value, count in enumerate(counts)}
+
+
 # ---- Known beforehand ----
 
 def known(sides):
@@ -28,7 +33,7 @@ def known(sides):
     for pins in range(4):
         exactly(sides, [], pins)
         exactly(sides, [START, 0x78 | pins << 1, START, 0x79 | pins << 1], pins, acknowledged=2, phase="reading")
-    exactly(sides, texts.data(0, 5, 2, [167]), x=6, y=2, last_rs=1, acknowledged=9)
+    exactly(sides, texts.data(0, 5, 2, [167]), x=6, y=2, last_rs=1, acknowledged=9, **pixels(6763, 1, 2, 1))
     changed = {row[0]: row[2] for row in pairs.REGISTERS}
     count = len([event for event in pairs.EVERY_REGISTER if event < 256])
     exactly(sides, pairs.EVERY_REGISTER, acknowledged=count, **changed)
@@ -77,6 +82,34 @@ def status(sides):
     exactly(sides, measure + reading, h=2, sm=1, acknowledged=5)
     exactly(sides, on + reading, pd=0, acknowledged=3)
     exactly(sides, on + measure + reading + [RESET], acknowledged=8)
+
+
+def written(sides, head, y, content, counts, x=0, **values):
+    """These bytes from column x of a bank on, after these commands, leave these counts."""
+    events = texts.commands(0, *head, 0x80 | x, 0x40 | y)[:-1] + [0x40] + content + [STOP]
+    sent = len([event for event in events if event < 256])
+    exactly(sides, events, x=x + len(content), y=y, last_rs=1, acknowledged=sent, **pixels(*counts), **values)
+
+
+def counts(sides):
+    """The pixels of each value: of the byte as it is stored, for the byte that stood there, three of them in bank 16."""
+    written(sides, [], 0, [0x1B], (6764, 1, 1, 1))
+    written(sides, [], 15, [0xFF, 0xFF], (6759, 0, 0, 8))
+    written(sides, [], 16, [0xFF], (6764, 0, 0, 3))
+    written(sides, [], 16, [0xC0, 0x40], (6767, 0, 0, 0))
+    written(sides, [], 7, [0x55] * 50, (6567, 200, 0, 0))
+    written(sides, [], 7, [0xAA] * 50, (6567, 0, 200, 0))
+    written(sides, [0x1C], 3, [0x01], (6766, 0, 1, 0), do=1)
+    written(sides, [0x1C], 16, [0x03], (6767, 0, 0, 0), do=1)
+    written(sides, [0x1C], 16, [0xC0], (6766, 0, 0, 1), do=1)
+    written(sides, [0x09, 0x0C, 0x01], 3, [0xFF], (6763, 0, 0, 4), mx=1, x=20)
+    twice = texts.data(0, 9, 4, [0xFF]) + texts.data(0, 9, 4, [0x05])
+    exactly(sides, twice, x=10, y=4, last_rs=1, acknowledged=18, **pixels(6765, 2, 0, 0))
+    exactly(sides, twice + [RESET], acknowledged=18, **pixels(6765, 2, 0, 0))
+    exactly(sides, [START, 0x7A, 0x40, 0xFF, 0xFF, STOP], not_acknowledged=4)
+    every = [0x1B] * 1717
+    exactly(sides, [START, 0x78, 0x40] + every, phase="endless display bytes", last_rs=1, acknowledged=1719,
+            **pixels(1616, 1717, 1717, 1717))
 
 
 def single_registers(sides):
@@ -143,5 +176,5 @@ def random_captures(sides):
 
 
 # Those that find an error with few comparisons come first.
-THEMES = [known, refusals, phases, answers, status, single_registers, samples, every_command, random_captures,
+THEMES = [known, refusals, phases, answers, status, counts, single_registers, samples, every_command, random_captures,
           bad_lines, long_captures, cuts]

@@ -53,12 +53,18 @@ def comparison(events, other):
             print(name, value, address(other)[name], sep="\t")
 
 
+def pixels(events):
+    """How many pixels have each value: four to a byte, three in the last bank."""
+    values = [byte >> 2 * row & 3 for _, bank, byte, _ in cells(events) for row in range(3 if bank == BANKS - 1 else 4)]
+    return {f"pixels {value}": values.count(value) for value in range(4)}
+
+
 def state(events):
     """Registers are as after reset, but for the address; each event but START is a byte that is acknowledged."""
     names = "h do pd v d e mx my ps x y bs bsh dp prs hve s tc sm vop gr gs0 gs1 gs2 gs3 dof dm ec oc".split()
     held = dict.fromkeys(names, 0) | {"pd": 1, "dof": 1} | address(events)
     held |= {"pins": 0, "status": 0, "last rs": 1, "phase": "endless display bytes", "count": events,
-             "acknowledged": events - 1, "not acknowledged": 0}
+             "acknowledged": events - 1, "not acknowledged": 0} | pixels(events)
     for name, value in held.items():
         print(name, value, sep="\t")
 
