@@ -70,6 +70,28 @@ static uint64_t bus_step_all(struct side *side)
     return stream.length;
 }
 
+/* Each by a weight of its own, so that counts that are exchanged make another sum. */
+static void add_counts(struct side *side, const uint64_t *n)
+{
+    side->sum += n[0] + 3 * n[1] + 5 * n[2] + 7 * n[3];
+}
+
+static uint64_t count_all(struct side *side)
+{
+    uint64_t n[VALUES];
+    side->sum += side->calls->counts(side->memory, PLACES, &n[0], &n[1], &n[2], &n[3]);
+    add_counts(side, n);
+    return ROWS * COLUMNS;
+}
+
+static uint64_t refresh(struct side *side)
+{
+    uint64_t n[VALUES];
+    side->calls->refresh(side->record, side->memory, n);
+    add_counts(side, n);
+    return 1;
+}
+
 static uint64_t look_at_all(struct side *side)
 {
     for (uint64_t row = 0; row < ROWS; row++)
@@ -194,6 +216,8 @@ static void compare(const char *name, const char *unit, uint64_t (*work)(struct 
     fflush(stdout);
 }
 
+/* The streams of banks are almost all display bytes, and both sides mend the counts of pixels at each: what
+ * mending costs the library is in these lines, and in those of the model as well. */
 static void compare_chip(void)
 {
     static const struct {
@@ -218,6 +242,14 @@ static void compare_bus(void)
 {
     bus_stream(&stream);
     compare("bus step, mixed", "events", bus_step_all, 2, clear_both);
+}
+
+/* The counting start, which goes over the memory; and a dashboard's refresh, for which the library has the
+ * counts in the record, against counting afresh in plain C. */
+static void compare_counts(void)
+{
+    compare("counts, a whole memory", "pixels", count_all, 100, light_up);
+    compare("refresh, kept / afresh", "refreshes", refresh, 1000, light_up);
 }
 
 static void compare_compilers(void)
@@ -251,6 +283,7 @@ int main(void)
     printf("%-26s %6s %6s %6s   %7s %7s\n", "", "least", "median", "most", "library", "model");
     compare_chip();
     compare_bus();
+    compare_counts();
     compare("glass, every pixel", "pixels", look_at_all, 40, light_up);
     compare("pulses, every row", "pixels", pulse_rows, 40, light_up);
     compare_compilers();

@@ -5,6 +5,7 @@
 #include "glass.h"
 #include "model.h"
 #include "pcf8820.h"
+#include "pixels.h"
 #include "pulses.h"
 #include "records.h"
 #include "wires.h"
@@ -13,10 +14,25 @@
 #include <stdlib.h>
 #include <string.h>
 
+/* What a dashboard does at each refresh: it reads the counts that the chip keeps, or it counts. */
+static void read_kept(const uint64_t *record, const uint8_t *memory, uint64_t *n)
+{
+    (void)memory;
+    memcpy(n, record + PCF8820_WORD_PIXELS_0, VALUES * sizeof *n);
+}
+
+static void count_afresh(const uint64_t *record, const uint8_t *memory, uint64_t *n)
+{
+    (void)record;
+    model_counts(memory, PLACES, &n[0], &n[1], &n[2], &n[3]);
+}
+
 static const struct calls library_calls = {
     .step = pcf8820_step,
     .run = pcf8820_run,
     .bus_step = pcf8820_bus_step,
+    .counts = pcf8820_counts,
+    .refresh = read_kept,
     .glass = pcf8820_glass,
     .pulse_row = pcf8820_pulse_row,
     .compile = pcf8820_compile,
@@ -27,6 +43,8 @@ static const struct calls model_calls = {
     .step = model_step,
     .run = model_run,
     .bus_step = model_bus_step,
+    .counts = model_counts,
+    .refresh = count_afresh,
     .glass = model_glass,
     .pulse_row = model_pulse_row,
     .compile = model_compile,
@@ -64,6 +82,7 @@ void light_up(void)
         library.record[lit[i].word] = lit[i].value;
     for (size_t i = 0; i < PLACES; i++)
         library.memory[i] = (uint8_t)below(256);
+    count_afresh(NULL, library.memory, library.record + PCF8820_WORD_PIXELS_0);
     memcpy(model.record, library.record, sizeof model.record);
     memcpy(model.memory, library.memory, sizeof model.memory);
 }

@@ -5,7 +5,7 @@
 #include <stddef.h>
 #include <stdint.h>
 
-enum { WORDS = 34, PLACES = 1717, CHIPS = 4, ROW_BYTES = 404, WIRE_WORDS = 5, MOST_OUT = 1 << 18 };
+enum { WORDS = 38, PLACES = 1717, CHIPS = 4, VALUES = 4, ROW_BYTES = 404, WIRE_WORDS = 5, MOST_OUT = 1 << 18 };
 
 /* The arguments of one chip. */
 #define OF_A_CHIP uint64_t *, size_t, uint8_t *, size_t, uint64_t *, size_t
@@ -16,6 +16,8 @@ struct calls {
                     uint64_t *, uint64_t *, uint64_t *);
     uint64_t (*bus_step)(OF_A_CHIP, OF_A_CHIP, OF_A_CHIP, OF_A_CHIP,
                          uint64_t *, uint16_t, uint64_t);
+    uint64_t (*counts)(const uint8_t *, size_t, uint64_t *, uint64_t *, uint64_t *, uint64_t *);
+    void (*refresh)(const uint64_t *, const uint8_t *, uint64_t *);
     uint64_t (*glass)(const uint64_t *, size_t, const uint8_t *, size_t, uint64_t, uint64_t);
     uint64_t (*pulse_row)(const uint64_t *, size_t, const uint8_t *, size_t, uint64_t,
                           uint8_t *, size_t);
@@ -51,7 +53,7 @@ extern struct side library, model;
  * count and the outputs 0. */
 void clear(struct side *side);
 
-/* A record that shows levels, and a random memory, the same on both sides. */
+/* A record that shows levels, and a random memory with its counts of pixels, the same on both sides. */
 void light_up(void);
 
 /* Ends the program if the two sides do not stand alike. */
