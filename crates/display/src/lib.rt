@@ -2,6 +2,7 @@
 ghost use mathlib.Core.Path.{_≡_};
 ghost use lib.ListN.{set};
 ghost use Rattle.display.specs.Display.{kept, storedOf, columnOf, placeOf, next, nextOnWrap, nextAddress, pixelsFit, pixelsAfter};
+use pixel_counts::mending::Mended;
 use registers::PixelCounts;
 use registers::Registers;
 use registers::entry::entry;
@@ -118,15 +119,11 @@ pub fn pixels_fit(registers: Registers, pixels: PixelCounts, memory: &[u8], byte
     pixel_counts::mending::mendable(pixels, at, entry(memory, at), stored(registers, byte))
 }
 
-// Those counts. They are made before the byte is stored.
-pub fn pixels_after(
-    registers: Registers,
-    pixels: PixelCounts,
-    memory: &[u8],
-    byte: u8,
-) -> PixelCounts
-    ensures { λ r. ⌜ r ≡ pixelsAfter registers pixels (now (memory .entry)) byte ⌝ }
+// The same, with the counts then, made before the byte is stored: for the chip that takes it.
+pub fn mend(registers: Registers, pixels: PixelCounts, memory: &[u8], byte: u8) -> Mended
+    ensures { λ r. ⌜ r .fit ≡ pixelsFit registers pixels (now (memory .entry)) byte ⌝ }
+    ensures { λ r. ⌜ r .pixels ≡ pixelsAfter registers pixels (now (memory .entry)) byte ⌝ }
 {
     let at = place(registers);
-    pixel_counts::mending::mended(pixels, at, entry(memory, at), stored(registers, byte))
+    pixel_counts::mending::mend(pixels, at, entry(memory, at), stored(registers, byte))
 }

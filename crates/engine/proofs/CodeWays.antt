@@ -1,10 +1,11 @@
 -- Ways through the code, over plain variables: of a byte, of an event, and of a run.
 use mathlib.Core.Path.{_≡_, refl, sym, ap, ap₂, _∙_, subst}
-use mathlib.Core.Bool.{Bool, true, false}
+use mathlib.Core.Bool.{Bool, true, false, not, _&&_}
 use mathlib.Core.List.{List, [], _∷_}
 use Prim.Native.Nat.{ℕ, zero, suc, _+_, _<_, _≤_, zero-le}
 use native.Mathlib.Numerals.{add-one}
 use native.Mathlib.Omega.{arith}
+use lib.Dec.{eqb}
 use lib.ListN.{length, getD, drop, set}
 use lib.Seq.{drop-cons, drop-length}
 use Rattle.registers.specs.declared.Registers.{Registers}
@@ -13,40 +14,48 @@ use Rattle.registers.specs.declared.Phase.{Phase}
 use Rattle.registers.specs.declared.PixelCounts.{PixelCounts}
 use Rattle.registers.specs.declared.Phase.the-variants.{Idle, AddressAwaited, Ignoring, ControlAwaited, OneByte, EndlessBytes, Reading, ReadEnded}
 use Rattle.registers.specs.Record.{phaseRs, inPhase, withRegisters, withPixels}
-use Rattle.registers.specs.Refusals.{_then_}
+use Rattle.registers.specs.Refusals.{refuse, _then_}
 use Rattle.registers.specs.State.{State, state}
 use Rattle.commands.specs.declared.answer.CommandAnswer.{CommandAnswer}
 use Rattle.commands.specs.Command.{commandOf, answerTo}
-use Rattle.display.specs.Display.{storedOf, placeOf, nextAddress, pixelsAfter}
+use Rattle.display.specs.Display.{storedOf, placeOf, nextAddress, pixelsFit}
 use Rattle.phases.specs.Phases.{awaitsContent, phaseAfterContent}
 use Rattle.engine.specs.declared.answer.Answer.{Answer}
 use Rattle.engine.specs.declared.answer.Answer.the-variants.{Refused, Nothing, Acknowledged, Command}
 use Rattle.engine.specs.declared.event.Event.{Event}
 use Rattle.engine.specs.Event.{eventOf, isByte, countsAs}
 use Rattle.engine.specs.Run.{Outcome, outcome, runFrom, runOf, unlessStopped, countUnless, tally, answerUnless, answerFrom, lastAnswer}
-use Rattle.engine.specs.Step.{After, after, nothingStored, contentOf, onByte, applied, accepted}
-use Rattle.engine.specs.Step.{entryRefusal, eventRefusal, pixelRefusal, refusalOf, unlessRefused, stepOf}
+use Rattle.engine.specs.Step.{isDisplayByte, pixelsUpon, After, after, pixelsAsIn, nothingStored, contentOf, onByte, applied, accepted}
+use Rattle.engine.specs.Step.{entryFor, entryRefusal, eventRefusal, pixelRefusal, refusalOf, unlessRefused, stepOf}
 use Rattle.engine.proofs.Events.{byte-event}
+use Rattle.engine.proofs.Pixels.{pixels-upon}
 use Rattle.engine.proofs.Tallies.{counted-once}
 
 -- ---- a byte
 
 module _ (rs : Bool) (p : Phase) (b : ℕ) (s : State) where
   pub display-content :
-      (moved there c′ : Chip) (next : Registers) (n : PixelCounts) (m w : List ℕ) → rs ≡ true → moved ≡ inPhase (s .chip) p
-      → n ≡ pixelsAfter (s .chip .registers) (s .chip .pixels) (s .memory) b
+      (moved c′ : Chip) (next : Registers) (m w : List ℕ) → rs ≡ true → moved ≡ inPhase (s .chip) p
       → next ≡ nextAddress (s .chip .registers)
       → m ≡ set (s .memory) (placeOf (s .chip .registers)) (storedOf (s .chip .registers) b)
       → w ≡ set (s .writers) (placeOf (s .chip .registers)) (s .count)
-      → there ≡ withRegisters moved next → c′ ≡ withPixels there n
-      → after Acknowledged c′ m w (s .count) ≡ contentOf rs p b s
-  display-content moved there c′ next n m w t e en er em ew et ec = simp (t, ec, et, e, er, en, em, ew)
+      → c′ ≡ withRegisters moved next
+      → pixelsAsIn (contentOf rs p b s) Acknowledged c′ m w (s .count) ≡ contentOf rs p b s
+  display-content moved c′ next m w t e n em ew ec = simp (t, ec, e, n, em, ew)
 
   pub command-content :
       (moved c′ : Chip) (a : CommandAnswer) (next : Registers) → rs ≡ false → moved ≡ inPhase (s .chip) p
       → next ≡ commandOf b (s .chip .registers) → a ≡ answerTo (s .chip .registers .h) b → c′ ≡ withRegisters moved next
-      → nothingStored (Command a) c′ s ≡ contentOf rs p b s
+      → pixelsAsIn (contentOf rs p b s) (Command a) c′ (s .memory) (s .writers) (s .count) ≡ contentOf rs p b s
   command-content moved c′ a next t e n ea ec = simp (t, ec, e, n, ea)
+
+-- an outcome that is right but for the pixels by value is so of whatever is the same; and one that is right is right but for them
+module _ (a : Answer) (c : Chip) (m w : List ℕ) (n : ℕ) where
+  pub carried : (x y : After) → x ≡ y → pixelsAsIn x a c m w n ≡ x → pixelsAsIn y a c m w n ≡ y
+  carried x y e h = subst (λ (z : After). pixelsAsIn z a c m w n ≡ z) e h
+
+  pub as-whole : (x : After) → after a c m w n ≡ x → pixelsAsIn x a c m w n ≡ x
+  as-whole x e = subst (λ (z : After). pixelsAsIn z a c m w n ≡ z) e refl
 
 -- the phase is known: what is right in that phase is right
 pub in-known-phase : (known phase : Phase) (b : ℕ) (s : State) (a : After) → phase ≡ known → a ≡ onByte known b s → a ≡ onByte phase b s
@@ -66,10 +75,9 @@ in-content-phase Reading b s t = cc
 in-content-phase ReadEnded b s t = cc
 
 pub content-taken :
-    (p next : Phase) (rs awaits : Bool) (b : ℕ) (s : State) (a : After)
-    → awaits ≡ awaitsContent p → awaits ≡ true → rs ≡ phaseRs p → next ≡ phaseAfterContent p → a ≡ contentOf rs next b s
-    → a ≡ onByte p b s
-content-taken p next rs awaits b s a e t er en h = h ∙ rw (er, en) (in-content-phase p b s (sym e ∙ t))
+    (p next : Phase) (rs awaits : Bool) (b : ℕ) (s : State)
+    → awaits ≡ awaitsContent p → awaits ≡ true → rs ≡ phaseRs p → next ≡ phaseAfterContent p → contentOf rs next b s ≡ onByte p b s
+content-taken p next rs awaits b s e t er en = rw (er, en) (in-content-phase p b s (sym e ∙ t))
 
 -- the phase is known, and is not one that awaits content
 pub no-content : (known phase : Phase) (a a′ : After) → phase ≡ known → awaitsContent known ≡ true → awaitsContent phase ≡ false → a ≡ a′
@@ -89,13 +97,37 @@ in-known-event known event s a a′ c c₁ c′ e made ec h =
 pub no-byte-known : (known event : Event) (a a′ : After) → event ≡ known → isByte known ≡ true → isByte event ≡ false → a ≡ a′
 no-byte-known known event a a′ e t f = cc
 
-module _ (e : ℕ) (s : State) (a : After) where
-  pub apply-byte : e < 256 → a ≡ onByte (s .chip .phase) e s → a ≡ applied (eventOf e) s
-  unfolding applied
-  apply-byte h q = q ∙ ap (λ (v : Event). applied v s) (sym (byte-event e h))
+pub byte-applied : (e : ℕ) (s : State) → e < 256 → onByte (s .chip .phase) e s ≡ applied (eventOf e) s
+unfolding applied
+byte-applied e s h = ap (λ (v : Event). applied v s) (sym (byte-event e h))
 
-  pub apply-other : (event : Event) → event ≡ eventOf e → a ≡ applied event s → a ≡ applied (eventOf e) s
-  apply-other event known h = h ∙ ap (λ (v : Event). applied v s) known
+pub other-applied : (e : ℕ) (s : State) (event : Event) → event ≡ eventOf e → applied event s ≡ applied (eventOf e) s
+other-applied e s event known = ap (λ (v : Event). applied v s) known
+
+-- ---- the pixels by value, mended in a place of their own
+
+-- 16 or none, by whether the counts stay in their range
+pub refusal-told :
+    (e : ℕ) (s : State) (r : ℕ) (fit : Bool) → fit ≡ eqb (pixelRefusal e (s .chip) (s .memory)) 0
+    → r ≡ entryFor (s .chip) (length (s .memory)) (length (s .writers)) then eventRefusal e (s .count) then refuse (not fit) 16
+    → r ≡ refusalOf e s
+unfolding refusalOf entryRefusal pixelRefusal
+refusal-told e s r fit ef told =
+    told
+    ∙ ap (λ (k : ℕ). entryFor (s .chip) (length (s .memory)) (length (s .writers)) then eventRefusal e (s .count) then k)
+    (rw ef (go (isDisplayByte e (s .chip .phase) && not (pixelsFit (s .chip .registers) (s .chip .pixels) (s .memory) e))))
+  where
+    go : (t : Bool) → refuse (not (eqb (refuse t 16) 0)) 16 ≡ refuse t 16
+    go true = refl
+    go false = refl
+
+-- with them the event is whole
+pub whole-event :
+    (e : ℕ) (s : State) (a : Answer) (c c′ : Chip) (n : PixelCounts) (m w : List ℕ) (k : ℕ)
+    → pixelsAsIn (accepted e s) a c m w k ≡ accepted e s → n ≡ pixelsUpon e (s .chip) (s .memory) → c′ ≡ withPixels c n
+    → after a c′ m w k ≡ accepted e s
+whole-event e s a c c′ n m w k h en ec =
+    ap (λ (x : Chip). after a x m w k) (ec ∙ ap (withPixels c) (en ∙ sym (pixels-upon e s))) ∙ h
 
 -- ---- a run
 

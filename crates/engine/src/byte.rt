@@ -7,7 +7,7 @@ ghost use Rattle.registers.specs.Record.{inPhase};
 ghost use Rattle.registers.specs.State.{state};
 ghost use Rattle.engine.specs.declared.answer.Answer.the-variants.{NotAcknowledged};
 ghost use Rattle.phases.specs.Phases.{isAddressed, phaseAfterAddress, awaitsContent};
-ghost use Rattle.engine.specs.Step.{after, acknowledge, contentOf, onByte};
+ghost use Rattle.engine.specs.Step.{after, pixelsAsIn, acknowledge, contentOf, onByte};
 use crate::answer::Answer;
 use crate::apply::Applied;
 use registers::Chip;
@@ -66,7 +66,8 @@ fn on_plain_byte(byte: u8, chip: Chip) -> Applied
     }
 }
 
-// A byte after a control byte: a command where RS is 0, display data where it is 1. Then the bus is in the given phase.
+// A byte after a control byte: a command where RS is 0, display data where it is 1. Then the bus is in the given phase. The pixels by value are mended
+// elsewhere.
 fn content(
     rs: bool,
     phase: Phase,
@@ -76,17 +77,17 @@ fn content(
     memory: &mut [u8],
     writers: &mut [u64],
 ) -> Applied
-    ensures { λ r. ⌜ after (r .answer) (r .chip) (now (memory .exit)) (now (writers .exit)) number
+    ensures { λ r. ⌜ pixelsAsIn (contentOf rs phase byte (state chip (now (memory .entry)) (now (writers .entry)) number))
+        (r .answer) (r .chip) (now (memory .exit)) (now (writers .exit)) number
         ≡ contentOf rs phase byte (state chip (now (memory .entry)) (now (writers .entry)) number) ⌝ }
 {
     let registers = chip.registers;
     let moved = chip.in_phase(phase);
     if rs {
-        let pixels = display::pixels_after(registers, chip.pixels, memory, byte);
         let next = display::display_byte(registers, memory, writers, byte, number);
         return Applied {
             answer: Answer::Acknowledged,
-            chip: moved.with_registers(next).with_pixels(pixels),
+            chip: moved.with_registers(next),
         };
     }
     let commanded = commands::command(registers, byte);
@@ -99,7 +100,8 @@ fn content(
 
 // Content is called from one place alone, so that the chip's record is not copied for it.
 pub fn on_byte(byte: u8, number: u64, chip: Chip, memory: &mut [u8], writers: &mut [u64]) -> Applied
-    ensures { λ r. ⌜ after (r .answer) (r .chip) (now (memory .exit)) (now (writers .exit)) number
+    ensures { λ r. ⌜ pixelsAsIn (onByte (chip .phase) byte (state chip (now (memory .entry)) (now (writers .entry)) number))
+        (r .answer) (r .chip) (now (memory .exit)) (now (writers .exit)) number
         ≡ onByte (chip .phase) byte (state chip (now (memory .entry)) (now (writers .entry)) number) ⌝ }
 {
     let phase = chip.phase;

@@ -3,6 +3,7 @@ pub mod answer;
 mod apply;
 mod byte;
 pub mod event;
+mod mending;
 pub mod refusal;
 pub mod run;
 mod sequence;

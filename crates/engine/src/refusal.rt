@@ -3,7 +3,6 @@ ghost use mathlib.Core.Bool.{not};
 ghost use mathlib.Core.Path.{_≡_};
 ghost use Rattle.registers.specs.Refusals.{refuse, _then_};
 ghost use Rattle.display.specs.Display.{pixelsFit};
-ghost use lib.ListN.{length};
 ghost use Rattle.engine.specs.Step.{entryFor, eventRefusal, pixelRefusal};
 use registers::Chip;
 
@@ -39,7 +38,7 @@ fn of_display_byte(byte: u8, chip: Chip, memory: &[u8]) -> u8
     }
 }
 
-// No other event is refused by 16.
+// No other event is refused by 16. A bus asks this of each of its chips; a chip alone finds it where it mends the counts.
 pub fn of_pixels(event: u16, chip: Chip, memory: &[u8]) -> u8
     ensures { λ r. ⌜ r ≡ pixelRefusal event chip (now (memory .entry)) ⌝ }
 {
@@ -53,18 +52,29 @@ pub fn of_pixels(event: u16, chip: Chip, memory: &[u8]) -> u8
     of_display_byte(event as u8, chip, memory)
 }
 
-// All five in their order.
-pub fn of_step(event: u16, chip: Chip, count: u64, memory: &[u8], writers_len: usize) -> u8
-    ensures { λ r. ⌜ r ≡ entryFor chip (length (now (memory .entry))) «writers_len» then eventRefusal event count
-        then pixelRefusal event chip (now (memory .entry)) ⌝ }
+// All five in their order; `fit` says that the counts of pixels would stay in their range. The tests of the entry are written out: called from here
+// too, they would not be compiled into the run, and the chip's record would be copied at each event.
+pub fn of_step(
+    event: u16,
+    chip: Chip,
+    count: u64,
+    memory_len: usize,
+    writers_len: usize,
+    fit: bool,
+) -> u8
+    ensures { λ r. ⌜ r ≡ entryFor chip «memory_len» «writers_len» then eventRefusal event count then refuse (not fit) 16 ⌝ }
 {
-    let of_entry = at_entry(chip, memory.len(), writers_len);
-    if of_entry != 0 {
-        return of_entry;
+    let of_lengths = registers::refusal::of_lengths(memory_len, writers_len);
+    if of_lengths != 0 {
+        return of_lengths;
+    }
+    let of_record = registers::refusal::of_record(chip);
+    if of_record != 0 {
+        return of_record;
     }
     let of_event = of_event(event, count);
     if of_event != 0 {
         return of_event;
     }
-    of_pixels(event, chip, memory)
+    if fit { 0 } else { 16 }
 }

@@ -42,7 +42,15 @@ fn go_through(
     let mut out_of_range = 0;
     while done < events.len() {
         let event = events[done];
-        let refused = crate::refusal::of_step(event, now_chip, now_count, memory, writers.len());
+        let mended = crate::mending::upon(event, now_chip, memory);
+        let refused = crate::refusal::of_step(
+            event,
+            now_chip,
+            now_count,
+            memory.len(),
+            writers.len(),
+            mended.fit,
+        );
         if refused != 0 {
             return Performed {
                 done,
@@ -56,8 +64,9 @@ fn go_through(
         }
         now_count += 1;
         let applied = crate::apply::apply(event, now_count, now_chip, memory, writers);
-        now_chip = applied.chip;
         answer = applied.answer;
+        let after = applied.chip;
+        now_chip = after.with_pixels(mended.pixels);
         done += 1;
         unknown += answer.counts_as(CommandAnswer::Unknown);
         out_of_range += answer.counts_as(CommandAnswer::OutOfRange);

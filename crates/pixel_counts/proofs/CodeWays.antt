@@ -10,9 +10,14 @@ use Rattle.registers.specs.Record.{byValue}
 use Rattle.registers.specs.Refusals.{lengthRefusal}
 use Rattle.pixel_counts.specs.Counts.{countOf, countsOf, counted, countingStart}
 use Rattle.pixel_counts.specs.Mending.{shown}
+use Rattle.pixel_counts.proofs.Pixels.{shown-low}
 use Rattle.pixel_counts.proofs.Places.{inPlaces, next-place, no-place, by-places}
 
 -- ---- the counts of a memory
+
+-- k is what a byte shows of value v
+pub few : (v place b k : ℕ) → k ≡ shown v place b → k ≤ 4
+few v place b k e = rw e (shown-low v place b)
 
 -- n is the count of value v at the first `at` places
 pub record SoFar (v : ℕ) (m : List ℕ) (at n : ℕ) : Type 0 where
@@ -24,11 +29,11 @@ module _ (v : ℕ) (m : List ℕ) where
   none-yet = record { counted = sym (no-place v m); low = omega arith }
 
   pub one-more :
-      (at n byte k : ℕ) → SoFar v m at n → byte ≡ getD m at 0 → k ≡ shown v at byte → k ≤ 4 → SoFar v m (at + 1) (n + k)
-  one-more at n byte k so-far eb ek l =
+      (at n byte k : ℕ) → SoFar v m at n → byte ≡ getD m at 0 → k ≡ shown v at byte → SoFar v m (at + 1) (n + k)
+  one-more at n byte k so-far eb ek =
       let next = next-place v m at in
       let here : k ≡ shown v at (getD m at 0) = ek ∙ ap (shown v at) eb in
-      record { counted = rw add-one (omega (arith, next, here, so-far .counted)); low = omega (arith, so-far .low) }
+      record { counted = rw add-one (omega (arith, next, here, so-far .counted)); low = omega (arith, so-far .low, few v at byte k ek) }
 
   all-counted : (n : ℕ) → SoFar v m 1717 n → n ≡ countOf v m
   all-counted n so-far = so-far .counted ∙ sym (by-places v m)

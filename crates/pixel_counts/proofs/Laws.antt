@@ -16,7 +16,7 @@ use Rattle.registers.proofs.Below.{true-false}
 use Rattle.registers.proofs.Within.{both-left, both-right, count-bound}
 use Rattle.glass.specs.Pixel.{valueIn}
 use Rattle.pixel_counts.specs.Counts.{ofValue, inRow, inRows, countOf, countsOf, counted, countingStart}
-use Rattle.pixel_counts.specs.Mending.{shown, fits, moved, fitsFor, movedFor, mendable, mended, StaysIn, GoesOut}
+use Rattle.pixel_counts.specs.Mending.{shown, fits, moved, mendable, mended, StaysIn, GoesOut}
 use Rattle.pixel_counts.proofs.Pixels.{three-shown}
 use Rattle.pixel_counts.proofs.Places.{set-moves}
 use Rattle.pixel_counts.proofs.Sums as Sums
@@ -86,16 +86,13 @@ moved-low n left joined h = go (fits n left joined) refl
 
 -- ---- counts of any kind, true or not, where byte `new` takes the place of byte `old`
 
-opened :
-    (n : PixelCounts) (place old new : ℕ) → mendable n place old new
-    ≡ fitsFor 0 (countFor n 0) place old new && fitsFor 1 (countFor n 1) place old new
-    && fitsFor 2 (countFor n 2) place old new && fitsFor 3 (countFor n 3) place old new
-unfolding mendable
-opened n place old new = refl
-
 module _ (n : PixelCounts) (place old new : ℕ) where
   abbrev fit : ℕ → Bool
-  fit v = fitsFor v (countFor n v) place old new
+  fit v = fits (countFor n v) (shown v place old) (shown v place new)
+
+  opened : mendable n place old new ≡ fit 0 && fit 1 && fit 2 && fit 3
+  unfolding mendable
+  opened = refl
 
   each-fits : mendable n place old new ≡ true → (v : ℕ) → v < 4 → fit v ≡ true
   unfolding mendable
@@ -137,11 +134,8 @@ module _ (n : PixelCounts) (place old new : ℕ) where
       among true true true false ea eb ec ed f = which 3 (omega arith) ed
       among true true true true ea eb ec ed f = absurd (true-false f)
 
-      open-up : mendable n place old new ≡ fit 0 && fit 1 && fit 2 && fit 3
-      open-up = opened n place old new
-
       there : mendable n place old new ≡ false → GoesOut n place old new
-      there f = among (fit 0) (fit 1) (fit 2) (fit 3) refl refl refl refl (sym open-up ∙ f)
+      there f = among (fit 0) (fit 1) (fit 2) (fit 3) refl refl refl refl (sym opened ∙ f)
 
       back : GoesOut n place old new → mendable n place old new ≡ false
       back out = go (mendable n place old new) refl
@@ -153,7 +147,7 @@ module _ (n : PixelCounts) (place old new : ℕ) where
           go false e = refl
 
   -- of each value the count after, by its own rule
-  of-each : (v : ℕ) → v < 4 → countFor (mended n place old new) v ≡ movedFor v (countFor n v) place old new
+  of-each : (v : ℕ) → v < 4 → countFor (mended n place old new) v ≡ moved (countFor n v) (shown v place old) (shown v place new)
   unfolding mended
   of-each zero h = refl
   of-each (suc zero) h = refl

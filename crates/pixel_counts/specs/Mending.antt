@@ -31,25 +31,24 @@ fits n left joined = leb left (n + joined) && leb (n + joined) (pixels + left)
 abbrev pub moved : ℕ → ℕ → ℕ → ℕ
 moved n left joined = cond (fits n left joined) (n + joined - left) n
 
--- ---- byte `new` takes the place of byte `old`
+-- of all four values
+abbrev pub allFit : PixelCounts → PixelCounts → PixelCounts → Bool
+allFit n left joined =
+    fits (n .zeros) (left .zeros) (joined .zeros)
+    && fits (n .ones) (left .ones) (joined .ones)
+    && fits (n .twos) (left .twos) (joined .twos)
+    && fits (n .threes) (left .threes) (joined .threes)
 
--- for one value, n being its count: judged by the whole byte, not pixel by pixel
-abbrev pub fitsFor : ℕ → ℕ → ℕ → ℕ → ℕ → Bool
-fitsFor v n place old new = fits n (shown v place old) (shown v place new)
+abbrev pub allMoved : PixelCounts → PixelCounts → PixelCounts → PixelCounts
+allMoved n left joined = byValue (λ v. moved (countFor n v) (countFor left v) (countFor joined v))
 
-abbrev pub movedFor : ℕ → ℕ → ℕ → ℕ → ℕ → ℕ
-movedFor v n place old new = moved n (shown v place old) (shown v place new)
+-- ---- byte `new` takes the place of byte `old`: what the one showed leaves, what the other shows joins, judged by the whole byte
 
--- for all four
 unfoldable pub mendable : PixelCounts → ℕ → ℕ → ℕ → Bool
-mendable n place old new =
-    fitsFor 0 (countFor n 0) place old new
-    && fitsFor 1 (countFor n 1) place old new
-    && fitsFor 2 (countFor n 2) place old new
-    && fitsFor 3 (countFor n 3) place old new
+mendable n place old new = allFit n (byValue (λ v. shown v place old)) (byValue (λ v. shown v place new))
 
 unfoldable pub mended : PixelCounts → ℕ → ℕ → ℕ → PixelCounts
-mended n place old new = byValue (λ v. movedFor v (countFor n v) place old new)
+mended n place old new = allMoved n (byValue (λ v. shown v place old)) (byValue (λ v. shown v place new))
 
 -- ---- the same in words
 

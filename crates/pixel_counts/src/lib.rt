@@ -4,6 +4,7 @@ ghost use Rattle.pixel_counts.specs.Counts.{countsOf, countingStart};
 use registers::PixelCounts;
 
 pub mod mending;
+mod shown;
 
 // The number of the refusal, 0 being none, and the counts, which are 0 where it is refused.
 pub struct Counted {
@@ -21,11 +22,11 @@ pub fn of_memory(memory: &[u8]) -> PixelCounts
     let mut threes = 0u16;
     let mut at = 0;
     while at < 1717 {
-        let byte = registers::entry::entry(memory, at);
-        zeros += mending::shown(0, at, byte);
-        ones += mending::shown(1, at, byte);
-        twos += mending::shown(2, at, byte);
-        threes += mending::shown(3, at, byte);
+        let here = shown::shown(at, registers::entry::entry(memory, at));
+        zeros += here.zeros;
+        ones += here.ones;
+        twos += here.twos;
+        threes += here.threes;
         at += 1;
     }
     PixelCounts {

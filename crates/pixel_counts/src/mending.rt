@@ -1,29 +1,13 @@
 // The counts mended where one byte takes the place of another: the pixels of the old byte leave, those of the new one join.
-ghost use mathlib.Core.Bool.{cond};
 ghost use mathlib.Core.Path.{_≡_};
-ghost use Prim.Native.Nat.{_+_, _-_, _≤_};
-ghost use Rattle.pixel_counts.specs.Mending.{shown, fits, moved, fitsFor, movedFor, mendable, mended};
+ghost use Rattle.pixel_counts.specs.Mending.{fits, moved, allFit, allMoved, mendable, mended};
+use crate::shown::shown;
 use registers::PixelCounts;
 
-fn one(counts: bool) -> u16
-    ensures { λ r. ⌜ r ≡ cond counts 1 0 ⌝ }
-    ensures { λ r. ⌜ r ≤ 1 ⌝ }
-{
-    counts as u16
-}
-
-// The pixels of a value that a byte at this place has on the glass: four rows to a bank, and three to bank 16, which begins at place 1,616.
-pub fn shown(value: u8, place: usize, byte: u8) -> u16
-    ensures { λ r. ⌜ r ≡ shown value place byte ⌝ }
-    ensures { λ r. ⌜ r ≤ 4 ⌝ }
-{
-    let on_glass = one(byte % 4 == value)
-        + one(byte / 4 % 4 == value)
-        + one(byte / 16 % 4 == value);
-    if place < 1616 {
-        return on_glass + one(byte / 64 == value);
-    }
-    on_glass
+// Whether there are such counts, of all four values, and the counts then.
+pub struct Mended {
+    pub fit: bool,
+    pub pixels: PixelCounts,
 }
 
 // A count that `left` pixels leave and `joined` pixels join would be neither below 0 nor above that of all pixels.
@@ -44,36 +28,42 @@ fn moved(count: u16, left: u16, joined: u16) -> u16
     count
 }
 
-fn fits_for(value: u8, count: u16, place: usize, old: u8, new: u8) -> bool
-    ensures { λ r. ⌜ r ≡ fitsFor value count place old new ⌝ }
+fn all_fit(pixels: PixelCounts, left: PixelCounts, joined: PixelCounts) -> bool
+    ensures { λ r. ⌜ r ≡ allFit pixels left joined ⌝ }
 {
-    fits(count, shown(value, place, old), shown(value, place, new))
+    fits(pixels.zeros, left.zeros, joined.zeros)
+        & fits(pixels.ones, left.ones, joined.ones)
+        & fits(pixels.twos, left.twos, joined.twos)
+        & fits(pixels.threes, left.threes, joined.threes)
 }
 
-fn moved_for(value: u8, count: u16, place: usize, old: u8, new: u8) -> u16
-    ensures { λ r. ⌜ r ≡ movedFor value count place old new ⌝ }
+fn all_moved(pixels: PixelCounts, left: PixelCounts, joined: PixelCounts) -> PixelCounts
+    ensures { λ r. ⌜ r ≡ allMoved pixels left joined ⌝ }
 {
-    moved(count, shown(value, place, old), shown(value, place, new))
+    PixelCounts {
+        zeros: moved(pixels.zeros, left.zeros, joined.zeros),
+        ones: moved(pixels.ones, left.ones, joined.ones),
+        twos: moved(pixels.twos, left.twos, joined.twos),
+        threes: moved(pixels.threes, left.threes, joined.threes),
+    }
 }
 
-// Whether there are such counts, of all four values, where byte `new` takes the place of byte `old`.
+// Byte `new` takes the place of byte `old`: whether all counts stay in their range.
 pub fn mendable(pixels: PixelCounts, place: usize, old: u8, new: u8) -> bool
     ensures { λ r. ⌜ r ≡ mendable pixels place old new ⌝ }
 {
-    fits_for(0, pixels.zeros, place, old, new)
-        & fits_for(1, pixels.ones, place, old, new)
-        & fits_for(2, pixels.twos, place, old, new)
-        & fits_for(3, pixels.threes, place, old, new)
+    all_fit(pixels, shown(place, old), shown(place, new))
 }
 
-// The counts then.
-pub fn mended(pixels: PixelCounts, place: usize, old: u8, new: u8) -> PixelCounts
-    ensures { λ r. ⌜ r ≡ mended pixels place old new ⌝ }
+// The same, with the counts then: both at once, for a display byte that is taken at all.
+pub fn mend(pixels: PixelCounts, place: usize, old: u8, new: u8) -> Mended
+    ensures { λ r. ⌜ r .fit ≡ mendable pixels place old new ⌝ }
+    ensures { λ r. ⌜ r .pixels ≡ mended pixels place old new ⌝ }
 {
-    PixelCounts {
-        zeros: moved_for(0, pixels.zeros, place, old, new),
-        ones: moved_for(1, pixels.ones, place, old, new),
-        twos: moved_for(2, pixels.twos, place, old, new),
-        threes: moved_for(3, pixels.threes, place, old, new),
+    let left = shown(place, old);
+    let joined = shown(place, new);
+    Mended {
+        fit: all_fit(pixels, left, joined),
+        pixels: all_moved(pixels, left, joined),
     }
 }

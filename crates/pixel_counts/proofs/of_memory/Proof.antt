@@ -1,7 +1,9 @@
 use Prim.Native.Nat.{_-_, _≤_}
+use mathlib.Core.Path.{ap}
 use native.Mathlib.Omega.{arith}
 use borrow.Author.Needs.{needs}
-use Rattle.pixel_counts.proofs.CodeWays.{SoFar, none-yet, one-more, whole-memory}
+use Rattle.registers.specs.declared.PixelCounts.{PixelCounts}
+use Rattle.pixel_counts.proofs.CodeWays.{SoFar, none-yet, few, one-more, whole-memory}
 use Rattle.pixel_counts.proofs.of_memory.Statement.{statement}
 use Rattle.pixel_counts.proofs.of_memory.Tie as tie
 
@@ -23,25 +25,28 @@ shown-requires : tie.Need-shown-requires Inv-loop μ-loop
 shown-requires c κs = search needs
 
 add-zeros : tie.Need-add-zeros Inv-loop μ-loop
-add-zeros c = search needs
-
-shown-requires-2 : tie.Need-shown-requires-2 Inv-loop μ-loop
-shown-requires-2 c κs = search needs
+add-zeros c =
+    let here = c .before in
+    let low = few 0 _ _ _ (ap (λ (n : PixelCounts). n .zeros) (here .shown .ensures)) in
+    omega (arith, low, here .before .before .before .loop .inv .1 .low, here .before .before .loop-test .taken)
 
 add-ones : tie.Need-add-ones Inv-loop μ-loop
-add-ones c = search needs
-
-shown-requires-3 : tie.Need-shown-requires-3 Inv-loop μ-loop
-shown-requires-3 c κs = search needs
+add-ones c =
+    let here = c .before .before in
+    let low = few 1 _ _ _ (ap (λ (n : PixelCounts). n .ones) (here .shown .ensures)) in
+    omega (arith, low, here .before .before .before .loop .inv .2 .low, here .before .before .loop-test .taken)
 
 add-twos : tie.Need-add-twos Inv-loop μ-loop
-add-twos c = search needs
-
-shown-requires-4 : tie.Need-shown-requires-4 Inv-loop μ-loop
-shown-requires-4 c κs = search needs
+add-twos c =
+    let here = c .before .before .before in
+    let low = few 2 _ _ _ (ap (λ (n : PixelCounts). n .twos) (here .shown .ensures)) in
+    omega (arith, low, here .before .before .before .loop .inv .3 .low, here .before .before .loop-test .taken)
 
 add-threes : tie.Need-add-threes Inv-loop μ-loop
-add-threes c = search needs
+add-threes c =
+    let here = c .before .before .before .before in
+    let low = few 3 _ _ _ (ap (λ (n : PixelCounts). n .threes) (here .shown .ensures)) in
+    omega (arith, low, here .before .before .before .loop .inv .4 .low, here .before .before .loop-test .taken)
 
 add-at : tie.Need-add-at Inv-loop μ-loop
 add-at c = search needs
@@ -51,16 +56,14 @@ loop-less c = search needs
 
 loop-again : tie.Need-loop-again Inv-loop μ-loop
 loop-again c =
-    let twos = c .before in
-    let zeros = twos .before .before in
-    let byte = zeros .before .entry .ensures in
-    let test = zeros .before .before in
-    let so-far = test .before .loop .inv in (
+    let here = c .before .before .before .before in
+    let byte = here .before .entry .ensures in
+    let so-far = here .before .before .before .loop .inv in (
       search needs,
-      one-more _ _ _ _ _ _ (so-far .1) byte (zeros .shown .ensures .0) (zeros .shown .ensures .1),
-      one-more _ _ _ _ _ _ (so-far .2) byte (twos .before .shown2 .ensures .0) (twos .before .shown2 .ensures .1),
-      one-more _ _ _ _ _ _ (so-far .3) byte (twos .shown3 .ensures .0) (twos .shown3 .ensures .1),
-      one-more _ _ _ _ _ _ (so-far .4) byte (c .shown4 .ensures .0) (c .shown4 .ensures .1),
+      one-more _ _ _ _ _ _ (so-far .1) byte (ap (λ (n : PixelCounts). n .zeros) (here .shown .ensures)),
+      one-more _ _ _ _ _ _ (so-far .2) byte (ap (λ (n : PixelCounts). n .ones) (here .shown .ensures)),
+      one-more _ _ _ _ _ _ (so-far .3) byte (ap (λ (n : PixelCounts). n .twos) (here .shown .ensures)),
+      one-more _ _ _ _ _ _ (so-far .4) byte (ap (λ (n : PixelCounts). n .threes) (here .shown .ensures)),
     )
 
 returns : tie.Need-returns Inv-loop μ-loop
@@ -78,11 +81,8 @@ of-memory-spec =
     entry-requires
     shown-requires
     add-zeros
-    shown-requires-2
     add-ones
-    shown-requires-3
     add-twos
-    shown-requires-4
     add-threes
     add-at
     loop-less

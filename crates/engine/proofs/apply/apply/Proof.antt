@@ -1,7 +1,7 @@
 use mathlib.Core.Path.{ap, _∙_}
 use Rattle.engine.specs.Event.{isByte}
 use Rattle.engine.proofs.Events.{other-event}
-use Rattle.engine.proofs.CodeWays.{apply-byte, apply-other}
+use Rattle.engine.proofs.CodeWays.{byte-applied, other-applied, carried, as-whole}
 use borrow.Author.Needs.{needs}
 use Rattle.engine.proofs.apply.apply.Statement.{statement}
 use Rattle.engine.proofs.apply.apply.Tie as tie
@@ -21,7 +21,7 @@ same-length-2 c = search needs
 returns : tie.Need-returns
 returns c =
     let acted = c .before .before .before .before in
-    apply-byte _ _ _ (acted .before .before .before .if1 .taken) (acted .on-byte .ensures)
+    carried _ (acted .on-byte .result .chip) _ _ _ _ _ (byte-applied _ _ (acted .before .before .before .if1 .taken)) (acted .on-byte .ensures)
 
 of-requires : tie.Need-of-requires
 of-requires c κs = search needs
@@ -30,7 +30,9 @@ on-other-event-requires : tie.Need-on-other-event-requires
 on-other-event-requires c κs = ap isByte (c .of .ensures) ∙ other-event _ (c .before .if1 .left)
 
 returns-2 : tie.Need-returns-2
-returns-2 c = apply-other (c .before .before .before .before .before .args .event) _ _ _ (c .before .of .ensures) (c .on-other-event .ensures _ _ _)
+returns-2 c =
+    carried _ (c .on-other-event .result .chip) _ _ _ _ _ (other-applied (c .before .before .before .before .before .args .event) _ _ (c .before .of .ensures))
+    (as-whole _ _ _ _ _ _ (c .on-other-event .ensures _ _ _))
 
 pub apply-spec : {M : Type 1} → statement M
 apply-spec =

@@ -6,17 +6,11 @@ use Rattle.engine.proofs.byte.content.Tie as tie
 in-phase-requires : tie.Need-in-phase-requires
 in-phase-requires c κs = search needs
 
-pixels-after-requires : tie.Need-pixels-after-requires
-pixels-after-requires c κs = search needs
-
 display-byte-requires : tie.Need-display-byte-requires
 display-byte-requires c κs = search needs
 
 with-registers-requires : tie.Need-with-registers-requires
 with-registers-requires c κs = search needs
-
-with-pixels-requires : tie.Need-with-pixels-requires
-with-pixels-requires c κs = search needs
 
 same-length : tie.Need-same-length
 same-length c = search needs
@@ -26,12 +20,10 @@ same-length-2 c = search needs
 
 returns : tie.Need-returns
 returns c =
-    let stored = c .before .before .before .before .before .before in
-    let pixels = stored .before .before .before in
-    let test = pixels .before .before in
-    display-content _ _ _ _ _ _ _ _ _ _ _ (test .if1 .taken) (test .before .in-phase .ensures) (pixels .pixels-after .ensures)
-    (stored .display-byte .ensures .0) (stored .display-byte .ensures .1 .0) (stored .display-byte .ensures .1 .1)
-    (c .before .with-registers .ensures) (c .with-pixels .ensures)
+    let stored = c .before .before .before .before .before in
+    let test = stored .before .before .before in
+    display-content _ _ _ _ _ _ _ _ _ (test .if1 .taken) (test .before .in-phase .ensures)
+    (stored .display-byte .ensures .0) (stored .display-byte .ensures .1 .0) (stored .display-byte .ensures .1 .1) (c .with-registers .ensures)
 
 command-requires : tie.Need-command-requires
 command-requires c κs = search needs
@@ -49,10 +41,8 @@ content-spec =
     tie.close
     (tie.spec
     in-phase-requires
-    pixels-after-requires
     display-byte-requires
     with-registers-requires
-    with-pixels-requires
     same-length
     same-length-2
     returns

@@ -1,4 +1,4 @@
-use Rattle.engine.proofs.CodeWays.{content-taken}
+use Rattle.engine.proofs.CodeWays.{content-taken, carried, as-whole}
 use mathlib.Core.Path.{sym, _∙_}
 use borrow.Author.Needs.{needs}
 use Rattle.engine.proofs.byte.on_byte.Statement.{statement}
@@ -28,14 +28,16 @@ returns c =
     let next = taken .before .before .before in
     let rs = next .before in
     let awaits = rs .before .before in
-    content-taken (awaits .before .before .before .args .chip .phase) _ _ _ _ _ _ (awaits .awaits-content .ensures) (rs .before .if1 .taken)
-    (rs .rs .ensures) (next .phase-after-content .ensures) (taken .content .ensures)
+    carried _ (taken .content .result .chip) _ _ _ _ _
+    (content-taken (awaits .before .before .before .args .chip .phase) _ _ _ _ _ (awaits .awaits-content .ensures) (rs .before .if1 .taken)
+    (rs .rs .ensures) (next .phase-after-content .ensures))
+    (taken .content .ensures)
 
 on-plain-byte-requires : tie.Need-on-plain-byte-requires
 on-plain-byte-requires c κs = sym (c .before .awaits-content .ensures) ∙ c .if1 .left
 
 returns-2 : tie.Need-returns-2
-returns-2 c = c .on-plain-byte .ensures _ _ _
+returns-2 c = as-whole _ _ _ _ _ _ (c .on-plain-byte .ensures _ _ _)
 
 pub on-byte-spec : {M : Type 1} → statement M
 on-byte-spec =

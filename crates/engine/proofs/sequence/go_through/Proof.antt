@@ -1,3 +1,4 @@
+use Rattle.engine.proofs.CodeWays.{refusal-told, whole-event}
 use Rattle.engine.proofs.CodeWays.{run-stops, run-goes-on, run-ends, answer-stops, answer-goes-on, answer-ends}
 use Rattle.engine.proofs.CodeWays.{Tallied, tally-begins, tally-stops, tally-goes-on, tally-ends}
 use Rattle.engine.proofs.Refusals.{accepts}
@@ -6,7 +7,7 @@ use Rattle.commands.specs.declared.answer.CommandAnswer.the-variants.{Unknown, 
 use Rattle.engine.specs.Run.{runFrom, tally, answerFrom}
 use Rattle.engine.specs.Step.{refusalOf, entryRefusal, accepted}
 use Rattle.registers.specs.State.{state}
-use lib.ListN.{length, drop}
+use lib.ListN.{length, drop, getD}
 use native.Mathlib.Omega.{arith}
 use borrow.Author.Needs.{needs}
 use Prim.Native.Nat.{_-_, _^_, _≤_, _<_}
@@ -37,6 +38,9 @@ mul-event c = search needs
 shared-slice-read-event : tie.Need-shared-slice-read-event Inv-loop μ-loop
 shared-slice-read-event c = search needs
 
+upon-requires : tie.Need-upon-requires Inv-loop μ-loop
+upon-requires c κs = search needs
+
 of-step-requires : tie.Need-of-step-requires Inv-loop μ-loop
 of-step-requires c κs = search needs
 
@@ -49,9 +53,12 @@ same-length-2 c = search needs
 returns : tie.Need-returns Inv-loop μ-loop
 unfolding refusalOf entryRefusal
 returns c =
-    let inside = c .before .before .before .before .loop-test .taken in
-    let at-head = c .before .before .before .before .before .loop .inv in
-    let refused = c .before .of-step .ensures in (
+    let inside = c .before .before .before .before .before .loop-test .taken in
+    let here = c .before .before .before .before .before .before in
+    let at-head = here .loop .inv in
+    let event = getD (here .before .before .before .before .args .events .now) (here .loop .done) 0 in
+    let before = state (here .loop .now-chip) (here .loop .memory) (here .loop .writers) (here .loop .now-count) in
+    let refused = refusal-told event before _ _ (c .before .before .upon .ensures .0) (c .before .of-step .ensures) in (
       sym (run-stops _ _ inside _ _ refused (c .if1 .taken)) ∙ at-head .3,
       (
         tally-stops _ _ inside _ _ _ _ (at-head .5) _ refused (c .if1 .taken),
@@ -64,16 +71,22 @@ returns c =
 
 add-now-count : tie.Need-add-now-count Inv-loop μ-loop
 unfolding refusalOf entryRefusal
-add-now-count c = let here = c .before .before .before .before .before .loop in
-    let before = state (here .now-chip) (here .memory) (here .writers) (here .now-count) in
-    omega (arith, accepts _ before (sym (c .before .of-step .ensures) ∙ c .if1 .left) .room)
+add-now-count c =
+    let here = c .before .before .before .before .before .before in
+    let event = getD (here .before .before .before .before .args .events .now) (here .loop .done) 0 in
+    let before = state (here .loop .now-chip) (here .loop .memory) (here .loop .writers) (here .loop .now-count) in
+    let refused = refusal-told event before _ _ (c .before .before .upon .ensures .0) (c .before .of-step .ensures) in
+    omega (arith, accepts event before (sym refused ∙ c .if1 .left) .room)
 
 apply-requires : tie.Need-apply-requires Inv-loop μ-loop
 apply-requires c κs = search needs
 
+with-pixels-requires : tie.Need-with-pixels-requires Inv-loop μ-loop
+with-pixels-requires c κs = search needs
+
 add-done : tie.Need-add-done Inv-loop μ-loop
 add-done c =
-    let test = c .before .before .before .before .before .before .before .before .before .before .before .before in
+    let test = c .before .before .before .before .before .before .before .before .before .before .before .before .before .before in
     omega (arith, test .loop-test .taken, test .before .before .before .before .before .good .1)
 
 counts-as-requires : tie.Need-counts-as-requires Inv-loop μ-loop
@@ -81,8 +94,8 @@ counts-as-requires c κs = search needs
 
 add-unknown : tie.Need-add-unknown Inv-loop μ-loop
 add-unknown c =
-    let applied = c .before .before .before .before .before .before in
-    let test = applied .before .before .before .before .before .before .before in
+    let applied = c .before .before .before .before .before .before .before in
+    let test = applied .before .before .before .before .before .before .before .before in
     let once = counted-once Unknown _ (applied .apply .result .answer) (c .counts-as .ensures) in
     omega (arith, test .before .loop .inv .5 .at-most, test .loop-test .taken, once, test .before .before .before .before .before .good .1)
 
@@ -91,32 +104,39 @@ counts-as-requires-2 c κs = search needs
 
 add-out-of-range : tie.Need-add-out-of-range Inv-loop μ-loop
 add-out-of-range c =
-    let applied = c .before .before .before .before .before .before .before in
-    let test = applied .before .before .before .before .before .before .before in
+    let applied = c .before .before .before .before .before .before .before .before in
+    let test = applied .before .before .before .before .before .before .before .before in
     let once = counted-once OutOfRange _ (applied .apply .result .answer) (c .counts-as2 .ensures) in
     omega (arith, test .before .loop .inv .6 .at-most, test .loop-test .taken, once, test .before .before .before .before .before .good .1)
 
 loop-less : tie.Need-loop-less Inv-loop μ-loop
-loop-less c = search needs
+loop-less c =
+    let test = c .before .before .before .before .before .before .before .before .before .before .before .before .before .before .before .before in
+    omega (arith, test .loop-test .taken)
 
 loop-again : tie.Need-loop-again Inv-loop μ-loop
 unfolding refusalOf entryRefusal accepted
-loop-again c = let unknown = c .before in
-    let applied = unknown .before .before .before .before .before .before in
+loop-again c =
+    let unknown = c .before in
+    let mended = unknown .before in
+    let applied = mended .before .before .before .before .before .before in
     let none = applied .before .before .before in
-    let test = none .before .before .before .before in
+    let pixels = none .before .before in
+    let test = pixels .before .before .before in
     let here = test .before .loop in
     let at-head = here .inv in
     let inside = test .loop-test .taken in
-    let refused = none .before .of-step .ensures in
-    let before = state (here .now-chip) (here .memory) (here .writers) (here .now-count) in (
-      (omega (arith, inside), omega (arith, accepts _ before (sym refused ∙ none .if1 .left) .room)),
+    let event = getD (test .before .before .before .before .before .args .events .now) (here .done) 0 in
+    let before = state (here .now-chip) (here .memory) (here .writers) (here .now-count) in
+    let refused = refusal-told event before _ _ (pixels .upon .ensures .0) (none .before .of-step .ensures) in
+    let whole = whole-event event before _ (applied .apply .result .chip) _ _ _ _ _ (applied .apply .ensures) (pixels .upon .ensures .1) (mended .with-pixels .ensures) in (
+      (omega (arith, inside), omega (arith, accepts event before (sym refused ∙ none .if1 .left) .room)),
       applied .apply .kept .1 .1 .1 .0 ∙ at-head .1,
       applied .apply .kept .1 .1 .1 .1 .0 ∙ at-head .2,
-      sym (run-goes-on _ _ inside _ _ _ refused (none .if1 .left) (applied .apply .ensures)) ∙ at-head .3,
-      sym (answer-goes-on _ _ inside _ _ _ _ refused (none .if1 .left) (applied .apply .ensures)) ∙ at-head .4,
-      tally-goes-on _ _ inside _ _ _ _ (at-head .5) _ _ _ refused (none .if1 .left) (applied .apply .ensures) (unknown .counts-as .ensures),
-      tally-goes-on _ _ inside _ _ _ _ (at-head .6) _ _ _ refused (none .if1 .left) (applied .apply .ensures) (c .counts-as2 .ensures),
+      sym (run-goes-on _ _ inside _ _ _ refused (none .if1 .left) whole) ∙ at-head .3,
+      sym (answer-goes-on _ _ inside _ _ _ _ refused (none .if1 .left) whole) ∙ at-head .4,
+      tally-goes-on _ _ inside _ _ _ _ (at-head .5) _ _ _ refused (none .if1 .left) whole (unknown .counts-as .ensures),
+      tally-goes-on _ _ inside _ _ _ _ (at-head .6) _ _ _ refused (none .if1 .left) whole (c .counts-as2 .ensures),
     )
 
 same-length-3 : tie.Need-same-length-3 Inv-loop μ-loop
@@ -144,12 +164,14 @@ go-through-spec =
     loop-holds
     mul-event
     shared-slice-read-event
+    upon-requires
     of-step-requires
     same-length
     same-length-2
     returns
     add-now-count
     apply-requires
+    with-pixels-requires
     add-done
     counts-as-requires
     add-unknown

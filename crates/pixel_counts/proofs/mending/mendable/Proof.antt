@@ -1,30 +1,21 @@
+use mathlib.Core.Path.{_∙_}
 use Rattle.pixel_counts.specs.Mending.{mendable}
 use borrow.Author.Needs.{needs}
 use Rattle.pixel_counts.proofs.mending.mendable.Statement.{statement}
 use Rattle.pixel_counts.proofs.mending.mendable.Tie as tie
 
-fits-for-requires : tie.Need-fits-for-requires
-fits-for-requires c κs = search needs
+shown-requires : tie.Need-shown-requires
+shown-requires c κs = search needs
 
-fits-for-requires-2 : tie.Need-fits-for-requires-2
-fits-for-requires-2 c κs = search needs
+shown-requires-2 : tie.Need-shown-requires-2
+shown-requires-2 c κs = search needs
 
-fits-for-requires-3 : tie.Need-fits-for-requires-3
-fits-for-requires-3 c κs = search needs
-
-fits-for-requires-4 : tie.Need-fits-for-requires-4
-fits-for-requires-4 c κs = search needs
+all-fit-requires : tie.Need-all-fit-requires
+all-fit-requires c κs = search needs
 
 returns : tie.Need-returns
 unfolding mendable
-returns c = simp (c .before .before .before .fits-for .ensures, c .before .before .fits-for2 .ensures, c .before .fits-for3 .ensures, c .fits-for4 .ensures)
+returns c = c .all-fit .ensures ∙ simp (c .before .before .shown .ensures, c .before .shown2 .ensures)
 
 pub mendable-spec : {M : Type 1} → statement M
-mendable-spec =
-    tie.close
-    (tie.spec
-    fits-for-requires
-    fits-for-requires-2
-    fits-for-requires-3
-    fits-for-requires-4
-    returns)
+mendable-spec = tie.close (tie.spec shown-requires shown-requires-2 all-fit-requires returns)
