@@ -7,8 +7,8 @@ use registers::Chip;
 pub mod play;
 pub mod refusal;
 
-// The chip after the events so far, how many they were, and the present line. Before the end of the first line the pins are not known,
-// and the chip stands with pins 0.
+// The chip after the events so far, how many they were, and the present line. Before the end of the first line the pins are not known
+// and the pixels not counted, and the chip stands with pins 0 as for a cleared memory.
 pub struct Capture {
     pub chip: Chip,
     pub count: u64,
