@@ -9,12 +9,13 @@ use lib.Dec.{leb}
 use lib.ListN.{getD, length, length-append}
 use Rattle.registers.specs.declared.Chip.{Chip}
 use Rattle.registers.specs.declared.Phase.{Phase}
+use Rattle.registers.specs.declared.PixelCounts.{PixelCounts}
 use Rattle.registers.specs.declared.Phase.the-variants.{Idle, AddressAwaited, Ignoring, ControlAwaited, OneByte, EndlessBytes, Reading, ReadEnded}
 use Rattle.registers.specs.declared.Registers.{Registers}
-use Rattle.registers.specs.Record.{names, values, limits, allowed, allowedRegisters}
+use Rattle.registers.specs.Record.{names, values, limits, allowed, allowedRegisters, allowedCounts}
 use Rattle.registers.specs.Refusals.{refuse, recordRefusal}
 use Rattle.registers.proofs.NamePieces.{name-bound}
-use Rattle.registers.proofs.Within.{both-left, both-right, allowed-registers, allowed-pins, register-bound}
+use Rattle.registers.proofs.Within.{both-left, both-right, allowed-registers, allowed-pins, allowed-counts, register-bound, count-bound}
 use Rattle.text.specs.Text.{bytes}
 use Rattle.print.specs.Chosen.{namedLine}
 use Rattle.print.specs.Printed.{decimalOf, partsFrom}
@@ -22,7 +23,7 @@ use Rattle.print.proofs.Digits.{decimal-bound}
 use Rattle.print.proofs.Writing.{parts-bound}
 use Rattle.capture_trace.specs.declared.tally.Tally.{Tally}
 use Rattle.chip_text.specs.ChipText.{bitOf, oneAwaited, endless, phaseWords, phaseLine, registerLineAt, registerLines}
-use Rattle.chip_text.specs.ChipText.{recordLines, busLines, chipText}
+use Rattle.chip_text.specs.ChipText.{recordLines, busLines, pixelLines, chipText}
 
 line-length : (a b : List ℕ) → length ((a ++ 9 ∷ b) ++ (10 ∷ [])) ≡ length a + length b + 2
 line-length a b = simp length-append (omega arith)
@@ -83,6 +84,30 @@ phase-bound (EndlessBytes rs) = go rs
 phase-bound Reading = omega arith
 phase-bound ReadEnded = omega arith
 
+-- ---- the pixels by value
+
+-- four digits
+count-line : (name : List ℕ) (n : ℕ) → n ≤ 6767 → length (namedLine name n) ≤ length name + 6
+count-line name n h = omega (arith, line-length name (decimalOf n), decimal-bound 3 n (omega arith))
+
+pixel-bound : (n : PixelCounts) → allowedCounts n ≡ true → length (pixelLines n) ≤ 56
+unfolding pixelLines
+pixel-bound n h =
+    let zeros = namedLine (bytes "pixels 0") (n .zeros) in
+    let ones = namedLine (bytes "pixels 1") (n .ones) in
+    let twos = namedLine (bytes "pixels 2") (n .twos) in
+    let threes = namedLine (bytes "pixels 3") (n .threes) in
+    omega (
+      arith,
+      length-append zeros (ones ++ (twos ++ threes)),
+      length-append ones (twos ++ threes),
+      length-append twos threes,
+      count-line (bytes "pixels 0") (n .zeros) (count-bound n h 0),
+      count-line (bytes "pixels 1") (n .ones) (count-bound n h 1),
+      count-line (bytes "pixels 2") (n .twos) (count-bound n h 2),
+      count-line (bytes "pixels 3") (n .threes) (count-bound n h 3),
+    )
+
 -- ---- all of it
 
 bit-bound : (t : Bool) → bitOf t ≤ 1
@@ -135,6 +160,14 @@ module _ (c : Chip) (n : ℕ) (t : Tally) (is-allowed : allowed c ≡ true) (sta
         named-bound (bytes "not acknowledged") (t .«not_acknowledged») (omega (arith, no)),
       )
 
-  -- 8 for each register, three letters of name and three digits; the others by their names and at most twenty digits
-  pub chip-text-bound : length (chipText c n t) ≤ 445
-  chip-text-bound = omega (arith, length-append (recordLines c) (busLines c n t), record-bound, bus-bound)
+  -- 8 for each register, three letters of name and three digits; 14 for each count of pixels; the others by their names and at most twenty digits
+  pub chip-text-bound : length (chipText c n t) ≤ 501
+  chip-text-bound =
+      omega (
+        arith,
+        length-append (recordLines c) (busLines c n t ++ pixelLines (c .pixels)),
+        length-append (busLines c n t) (pixelLines (c .pixels)),
+        record-bound,
+        bus-bound,
+        pixel-bound (c .pixels) (allowed-counts c is-allowed),
+      )

@@ -8,6 +8,7 @@ use types.Run.{OneOf}
 use lib.ListN.{length, getD}
 use Rattle.registers.specs.declared.Chip.{Chip}
 use Rattle.registers.specs.declared.Phase.{Phase}
+use Rattle.registers.specs.declared.PixelCounts.{PixelCounts}
 use Rattle.registers.specs.Record.{names, values}
 use Rattle.registers.specs.Refusals.{recordRefusal}
 use Rattle.registers.proofs.NamePieces.{name-there}
@@ -21,7 +22,7 @@ use Rattle.capture.proofs.End.{the-type}
 use Rattle.capture_trace.specs.declared.tally.Tally.{Tally}
 use Rattle.listing.specs.ReplayText.{refusedCall}
 use Rattle.listing.proofs.CodeWays.{not-whole}
-use Rattle.chip_text.specs.ChipText.{bitOf, phaseWords, phaseLine, registerLine, registerLines, recordLines, busLines, chipText, chipTextCall}
+use Rattle.chip_text.specs.ChipText.{bitOf, phaseWords, phaseLine, registerLine, registerLines, recordLines, busLines, pixelLines, chipText, chipTextCall}
 
 -- ---- one line
 
@@ -64,6 +65,16 @@ pub bus-wrote :
     → Wrote l₀ i₀ (busLines c n t) l₄ i₄
 unfolding busLines
 bus-wrote {l₁ = l₁} c n t h p m y o = let h₁ : length l₁ ≤ top = omega (arith, wrote-length p) in wrote-then h p (wrote-three h₁ m y o)
+
+pub pixels-wrote :
+    {l₀ l₁ l₂ l₃ l₄ : List ℕ} {i₀ i₁ i₂ i₃ i₄ : ℕ} (n : PixelCounts) → length l₀ ≤ top
+    → Wrote l₀ i₀ (namedLine (bytes "pixels 0") (n .zeros)) l₁ i₁
+    → Wrote l₁ i₁ (namedLine (bytes "pixels 1") (n .ones)) l₂ i₂
+    → Wrote l₂ i₂ (namedLine (bytes "pixels 2") (n .twos)) l₃ i₃
+    → Wrote l₃ i₃ (namedLine (bytes "pixels 3") (n .threes)) l₄ i₄
+    → Wrote l₀ i₀ (pixelLines n) l₄ i₄
+unfolding pixelLines
+pixels-wrote {l₁ = l₁} n h a b c d = let h₁ : length l₁ ≤ top = omega (arith, wrote-length a) in wrote-then h a (wrote-three h₁ b c d)
 
 -- ---- what is printed of a capture, by the variant of its end
 

@@ -1,11 +1,12 @@
--- A chip's record in words, and what the bus has seen: the registers by name, then pins, status byte, last RS and phase, the event count, and how many bytes
--- were acknowledged.
+-- A chip's record in words, and what the bus has seen: the registers by name, then pins, status byte, last RS and phase, the event count, how many bytes
+-- were acknowledged, and how many pixels have each value.
 use mathlib.Core.Bool.{Bool, true, false, cond}
 use mathlib.Core.List.{List, [], _∷_, _++_}
 use Prim.Native.Nat.{ℕ}
 use lib.ListN.{getD}
 use Rattle.registers.specs.declared.Chip.{Chip}
 use Rattle.registers.specs.declared.Phase.{Phase}
+use Rattle.registers.specs.declared.PixelCounts.{PixelCounts}
 use Rattle.registers.specs.declared.Phase.the-variants.{Idle, AddressAwaited, Ignoring, ControlAwaited, OneByte, EndlessBytes, Reading, ReadEnded}
 use Rattle.registers.specs.Record.{names, values}
 use Rattle.registers.specs.Refusals.{recordRefusal}
@@ -73,8 +74,16 @@ busLines c n t =
     ++ (namedLine (bytes "acknowledged") (t .acknowledged)
     ++ namedLine (bytes "not acknowledged") (t .«not_acknowledged»)))
 
+-- how many pixels have each value (document 02, W8)
+unfoldable pub pixelLines : PixelCounts → List ℕ
+pixelLines n =
+    namedLine (bytes "pixels 0") (n .zeros)
+    ++ (namedLine (bytes "pixels 1") (n .ones)
+    ++ (namedLine (bytes "pixels 2") (n .twos)
+    ++ namedLine (bytes "pixels 3") (n .threes)))
+
 abbrev pub chipText : Chip → ℕ → Tally → List ℕ
-chipText c n t = recordLines c ++ busLines c n t
+chipText c n t = recordLines c ++ (busLines c n t ++ pixelLines (c .pixels))
 
 -- of a capture that came to an end and was tallied so: the answer, and the buffer. 2: a record that is not allowed
 unfoldable pub chipTextCall : End → Tally → List ℕ → Output

@@ -3,12 +3,13 @@ ghost use mathlib.Core.Path.{_≡_};
 ghost use Rattle.registers.specs.Refusals.{recordRefusal};
 ghost use Rattle.print.specs.Printed.{Wrote, output, wholeText};
 ghost use Rattle.chip_text.specs.ChipText.{bitOf, oneAwaited, endless, phaseWords, phaseLine};
-ghost use Rattle.chip_text.specs.ChipText.{registerLine, registerLines, recordLines, busLines, chipText, chipTextCall};
+ghost use Rattle.chip_text.specs.ChipText.{registerLine, registerLines, recordLines, busLines, pixelLines, chipText, chipTextCall};
 use capture::End;
 use capture_trace::tally::Tally;
 use print::Written;
 use registers::Chip;
 use registers::Phase;
+use registers::PixelCounts;
 use registers::names;
 use text::pieces::piece;
 
@@ -104,12 +105,24 @@ fn bus_lines(chip: Chip, count: u64, tally: Tally, out: &mut [u8], at: usize) ->
     print::named_line(b"not acknowledged", tally.not_acknowledged, out, after_yes)
 }
 
+// How many pixels have each value.
+fn pixel_lines(pixels: PixelCounts, out: &mut [u8], at: usize) -> usize
+    ensures { λ r. ⌜ Wrote (now (out .entry)) at (pixelLines pixels) (now (out .exit)) r ⌝ }
+{
+    let after_zeros = print::named_line(b"pixels 0", pixels.zeros as u64, out, at);
+    let after_ones = print::named_line(b"pixels 1", pixels.ones as u64, out, after_zeros);
+    let after_twos = print::named_line(b"pixels 2", pixels.twos as u64, out, after_ones);
+    print::named_line(b"pixels 3", pixels.threes as u64, out, after_twos)
+}
+
 // The whole text.
 fn lines(chip: Chip, count: u64, tally: Tally, out: &mut [u8]) -> usize
     ensures { λ r. ⌜ Wrote (now (out .entry)) 0 (chipText chip count tally) (now (out .exit)) r ⌝ }
 {
     let after_record = record_lines(chip, out, 0);
-    bus_lines(chip, count, tally, out, after_record)
+    let after_bus = bus_lines(chip, count, tally, out, after_record);
+    let pixels = chip.pixels;
+    pixel_lines(pixels, out, after_bus)
 }
 
 // The whole text, if there is room for it. 2: a record that is not allowed.
