@@ -7,9 +7,12 @@ use mathlib.Core.Path.{_≡_, refl, sym, ap, _∙_, subst}
 use Prim.Native.Nat.{ℕ, zero, suc, _+_, _≤_}
 use native.Mathlib.Omega.{arith}
 use lib.Dec.{T}
-use Rattle.registers.specs.Refusals.{refuse, _then_}
 use Rattle.registers.specs.declared.Chip.{Chip}
-use Rattle.registers.specs.State.{State}
+use Rattle.registers.specs.declared.PixelCounts.{PixelCounts}
+use Rattle.registers.specs.Record.{resetChip, withPixels}
+use Rattle.registers.specs.Refusals.{refuse, _then_}
+use Rattle.registers.specs.State.{State, state, places}
+use Rattle.pixel_counts.proofs.Laws.{zeros-cleared}
 use Rattle.chip.specs.LastWriter.{Untouched, Written}
 use Rattle.chip.specs.Promised.{Fit, Outcome, runOf, refusalOf, countsOf, TrueCounts}
 use Rattle.chip.proofs.Laws.{last-writer, true-never-16}
@@ -203,6 +206,10 @@ leaves-true text m w = ⊎-elim (λ lent. over (ended m w lent text)) (λ n. rw 
 pub whole-true : (c : Chip) (n : ℕ) (m w text m₀ w₀ : List ℕ) → meaning (ends.Whole c n) m w ≡ replayOf text m₀ w₀ → c .pixels ≡ countsOf m
 unfolding meaning
 whole-true c n m w text m₀ w₀ h = subst (λ (r : Replay). TrueCounts (leftBy r)) (sym h) (leaves-true text m₀ w₀)
+
+-- over memories of zeros a capture begins with the chip as a reset leaves it
+pub starts-cleared : (pins : ℕ) → start pins ≡ state (resetChip pins) zeros zeros 0
+starts-cleared pins = ap (λ (n : PixelCounts). state (withPixels (resetChip pins) n) zeros zeros 0) (zeros-cleared places)
 
 -- no event of a capture is refused by 16
 pub never-16 : (n : ℕ) (text m w : List ℕ) (end : State) → StoppedAfter n text m w end → (e : ℕ) → refusalOf e end ≡ 16 → ⊥
