@@ -2,9 +2,9 @@
 import project
 
 OUTSIDE = ["drawing", "compiler", "bus_drawing"]
-INSIDE = ["engine", "phases", "commands", "display"]
+INSIDE = ["engine", "phases", "commands", "display", "pixel_counts"]
 # what the chip stands on, and the compiler may see
-SHARED = ["registers", "instruction_table", "row_search", "text"]
+SHARED = ["registers", "instruction_table", "row_search", "text", "glass"]
 
 
 def reached(crates, name):
