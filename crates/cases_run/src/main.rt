@@ -4,7 +4,7 @@
 //   answers A1 A2 ..                 one for each event, up to the first refused one
 //   done N refusal R unknown U out-of-range O
 //                                    of a run over all events on a fresh chip, R 0 if none; U and O of its commands were so answered
-//   record W0 W1 .. W33 COUNT        after that run
+//   record W0 W1 .. W37 COUNT        after that run
 //   cell COLUMN BANK BYTE EVENT      for each written place, by bank, then column
 //   pulses ROW 5 P0 P1 P2 P3         for each of the glass's rows 8 to 11 that is lit in column 5
 mod cases;
@@ -92,11 +92,26 @@ fn pulses(record: &[u64], memory: &[u8], row: u64, out: &mut [u8], at: usize) ->
     print::byte(b'\n', out, next)
 }
 
-fn step_by_step(pins: u64, events: &[u16], out: &mut [u8], at: usize) -> usize {
+// The record after a power-on reset, with the counts of a counting start over this memory.
+fn begin(memory: &[u8], pins: u64) -> [u64; 38] {
     let mut record = [0u64; 38];
+    host::pcf8820_reset(&mut record, pins);
+    let mut zeros = 0;
+    let mut ones = 0;
+    let mut twos = 0;
+    let mut threes = 0;
+    host::counts_call::pcf8820_counts(memory, &mut zeros, &mut ones, &mut twos, &mut threes);
+    record[34] = zeros;
+    record[35] = ones;
+    record[36] = twos;
+    record[37] = threes;
+    record
+}
+
+fn step_by_step(pins: u64, events: &[u16], out: &mut [u8], at: usize) -> usize {
     let mut memory = [0u8; 1717];
     let mut writers = [0u64; 1717];
-    host::pcf8820_reset(&mut record, pins);
+    let mut record = begin(&memory, pins);
     let first = print::bytes(b"answers", out, at);
     let end = answers(&mut record, &mut memory, &mut writers, events, out, first);
     print::byte(b'\n', out, end)
@@ -148,10 +163,9 @@ fn lit_rows(record: &[u64], memory: &[u8], out: &mut [u8], at: usize) -> usize {
 }
 
 fn at_once(pins: u64, events: &[u16], out: &mut [u8], at: usize) -> usize {
-    let mut record = [0u64; 38];
     let mut memory = [0u8; 1717];
     let mut writers = [0u64; 1717];
-    host::pcf8820_reset(&mut record, pins);
+    let mut record = begin(&memory, pins);
     let mut count = 0;
     let mut next = run(
         &mut record,

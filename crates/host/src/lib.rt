@@ -12,7 +12,7 @@ use record_words::write_record;
 use registers::Chip;
 
 mod bus_call;
-mod counts_call;
+pub mod counts_call;
 mod wires_call;
 
 // Why words that stand for no record are refused: 1 comes first.
