@@ -25,9 +25,9 @@ use Rattle.engine.specs.declared.answer.Answer.the-variants.{Refused, No
 use Rattle.engine.specs.declared.event.Event.{Event}
 use Rattle.engine.specs.Event.{eventOf, isByte, countsAs}
 use Rattle.engine.specs.Run.{Outcome, outcome, runFrom, runOf, unlessStopped, countUnless, tally, answerUnless, answerFrom, lastAnswer}
-use Rattle.engine.specs.Step.{isDisplayByte, pixelsUpon, After, after, pixelsAsIn, nothingStored, contentOf, onByte, applied, accepted}
+use Rattle.engine.specs.Step.{isDisplayByte, pixelsUpon, After, after, unmended, nothingStored, contentOf, onByte, applied, accepted}
 use Rattle.engine.specs.Step.{entryFor, entryRefusal, eventRefusal, pixelRefusal, refusalOf, unlessRefused, stepOf}
-use Rattle.engine.proofs.Events.{byte-event}
+use Rattle.engine.proofs.Events.{byte-event, other-event}
 use Rattle.engine.proofs.Pixels.{pixels-upon}
 use Rattle.engine.proofs.Tallies.{counted-once}
 
@@ -40,22 +40,18 @@ module _ (rs : Bool) (p : Phase) (b : ℕ) (s : State) where
       → m ≡ set (s .memory) (placeOf (s .chip .registers)) (storedOf (s .chip .registers) b)
       → w ≡ set (s .writers) (placeOf (s .chip .registers)) (s .count)
       → c′ ≡ withRegisters moved next
-      → pixelsAsIn (contentOf rs p b s) Acknowledged c′ m w (s .count) ≡ contentOf rs p b s
+      → after Acknowledged c′ m w (s .count) ≡ unmended (s .chip .pixels) (contentOf rs p b s)
   display-content moved c′ next m w t e n em ew ec = simp (t, ec, e, n, em, ew)
 
   pub command-content :
       (moved c′ : Chip) (a : CommandAnswer) (next : Registers) → rs ≡ false → moved ≡ inPhase (s .chip) p
       → next ≡ commandOf b (s .chip .registers) → a ≡ answerTo (s .chip .registers .h) b → c′ ≡ withRegisters moved next
-      → pixelsAsIn (contentOf rs p b s) (Command a) c′ (s .memory) (s .writers) (s .count) ≡ contentOf rs p b s
+      → nothingStored (Command a) c′ s ≡ unmended (s .chip .pixels) (contentOf rs p b s)
   command-content moved c′ a next t e n ea ec = simp (t, ec, e, n, ea)
 
--- an outcome that is right but for the pixels by value is so of whatever is the same; and one that is right is right but for them
-module _ (a : Answer) (c : Chip) (m w : List ℕ) (n : ℕ) where
-  pub carried : (x y : After) → x ≡ y → pixelsAsIn x a c m w n ≡ x → pixelsAsIn y a c m w n ≡ y
-  carried x y e h = subst (λ (z : After). pixelsAsIn z a c m w n ≡ z) e h
-
-  pub as-whole : (x : After) → after a c m w n ≡ x → pixelsAsIn x a c m w n ≡ x
-  as-whole x e = subst (λ (z : After). pixelsAsIn z a c m w n ≡ z) e refl
+-- where no pixel moves, the outcome is the whole one
+pub none-moved : (n : PixelCounts) (x y : After) → x ≡ y → y .state .chip .pixels ≡ n → x ≡ unmended n y
+none-moved n x y e k = e ∙ ap (λ (p : PixelCounts). unmended p y) k
 
 -- the phase is known: what is right in that phase is right
 pub in-known-phase : (known phase : Phase) (b : ℕ) (s : State) (a : After) → phase ≡ known → a ≡ onByte known b s → a ≡ onByte phase b s
@@ -78,6 +74,17 @@ pub content-taken :
     (p next : Phase) (rs awaits : Bool) (b : ℕ) (s : State)
     → awaits ≡ awaitsContent p → awaits ≡ true → rs ≡ phaseRs p → next ≡ phaseAfterContent p → contentOf rs next b s ≡ onByte p b s
 content-taken p next rs awaits b s e t er en = rw (er, en) (in-content-phase p b s (sym e ∙ t))
+
+-- where none is awaited, no display data is
+pub no-content-rs : (p : Phase) → awaitsContent p ≡ false → phaseRs p ≡ false
+no-content-rs Idle f = refl
+no-content-rs AddressAwaited f = refl
+no-content-rs Ignoring f = refl
+no-content-rs ControlAwaited f = refl
+no-content-rs (OneByte rs) f = cc
+no-content-rs (EndlessBytes rs) f = cc
+no-content-rs Reading f = refl
+no-content-rs ReadEnded f = refl
 
 -- the phase is known, and is not one that awaits content
 pub no-content : (known phase : Phase) (a a′ : After) → phase ≡ known → awaitsContent known ≡ true → awaitsContent phase ≡ false → a ≡ a′
@@ -104,7 +111,16 @@ byte-applied e s h = ap (λ (v : Event). applied v s) (sym (byte-event e h))
 pub other-applied : (e : ℕ) (s : State) (event : Event) → event ≡ eventOf e → applied event s ≡ applied (eventOf e) s
 other-applied e s event known = ap (λ (v : Event). applied v s) known
 
+-- an event that is no byte is no display byte, whatever the phase
+pub other-still : (e : ℕ) (rs : Bool) → 256 ≤ e → isByte (eventOf e) && rs ≡ false
+other-still e rs h = rw (other-event e h)
+
 -- ---- the pixels by value, mended in a place of their own
+
+-- what fits is what 16 does not refuse
+pub fit-number : (t : Bool) → t ≡ eqb (refuse (not t) 16) 0
+fit-number true = refl
+fit-number false = refl
 
 -- 16 or none, by whether the counts stay in their range
 pub refusal-told :
@@ -124,10 +140,11 @@ refusal-told e s r fit ef told =
 -- with them the event is whole
 pub whole-event :
     (e : ℕ) (s : State) (a : Answer) (c c′ : Chip) (n : PixelCounts) (m w : List ℕ) (k : ℕ)
-    → pixelsAsIn (accepted e s) a c m w k ≡ accepted e s → n ≡ pixelsUpon e (s .chip) (s .memory) → c′ ≡ withPixels c n
+    → after a c m w k ≡ unmended (s .chip .pixels) (accepted e s) → n ≡ pixelsUpon e (s .chip) (s .memory) → c′ ≡ withPixels c n
     → after a c′ m w k ≡ accepted e s
 whole-event e s a c c′ n m w k h en ec =
-    ap (λ (x : Chip). after a x m w k) (ec ∙ ap (withPixels c) (en ∙ sym (pixels-upon e s))) ∙ h
+    ap (λ (x : Chip). after a x m w k) (ec ∙ ap (withPixels c) (en ∙ sym (pixels-upon e s)))
+    ∙ ap (λ (x : After). unmended (accepted e s .state .chip .pixels) x) h
 
 -- ---- a run
 

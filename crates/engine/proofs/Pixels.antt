@@ -95,7 +95,7 @@ accepted-true e s fit t =
 
 -- ---- counts of any kind, where no display byte comes
 
-byte-kept : (p : Phase) (b : ℕ) (s : State) → phaseRs p ≡ false → onByte p b s .state .chip .pixels ≡ s .chip .pixels
+pub byte-kept : (p : Phase) (b : ℕ) (s : State) → phaseRs p ≡ false → onByte p b s .state .chip .pixels ≡ s .chip .pixels
 unfolding controlled
 byte-kept Idle b s f = refl
 byte-kept AddressAwaited b s f = refl
@@ -109,7 +109,7 @@ byte-kept Reading b s f = refl
 byte-kept ReadEnded b s f = refl
 
 -- the reset pulse among them
-applied-kept : (v : Event) (s : State) → isByte v && phaseRs (s .chip .phase) ≡ false → applied v s .state .chip .pixels ≡ s .chip .pixels
+pub applied-kept : (v : Event) (s : State) → isByte v && phaseRs (s .chip .phase) ≡ false → applied v s .state .chip .pixels ≡ s .chip .pixels
 unfolding applied pulsed sensed
 applied-kept (Byte b) s f = byte-kept (s .chip .phase) b s f
 applied-kept Start s f = refl

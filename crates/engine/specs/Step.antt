@@ -36,7 +36,7 @@ entryRefusal s = entryFor (s .chip) (length (s .memory)) (length (s .writers))
 unfoldable pub eventRefusal : ℕ → ℕ → ℕ
 eventRefusal e count = refuse (not (isListedEvent e)) 3 then refuse (eqb count (2 ^ 64 - 1)) 4
 
--- a byte from the master that comes as display data: RS 1 is that of such a byte alone
+-- a byte from the master that comes as display data: a phase has RS 1 only where such data is awaited
 abbrev pub isDisplayByte : ℕ → Phase → Bool
 isDisplayByte e p = ltb e 256 && phaseRs p
 
@@ -70,9 +70,9 @@ after a c m w n = record { answer = a; state = Rattle.registers.specs.State.sta
 abbrev pub nothingStored : Answer → Chip → State → After
 nothingStored a c s = after a c (s .memory) (s .writers) (s .count)
 
--- the same but for the pixels by value, which are taken from another outcome: the code mends them in a place of its own
-abbrev pub pixelsAsIn : After → Answer → Chip → List ℕ → List ℕ → ℕ → After
-pixelsAsIn whole a c m w n = after a (withPixels c (whole .state .chip .pixels)) m w n
+-- the same outcome but with the pixels by value as they were: the code mends them in a place of its own
+abbrev pub unmended : PixelCounts → After → After
+unmended n a = after (a .answer) (withPixels (a .state .chip) n) (a .state .memory) (a .state .writers) (a .state .count)
 
 -- ---- a byte from the master
 

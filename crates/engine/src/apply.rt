@@ -6,7 +6,7 @@ ghost use Prim.Native.Nat.{ℕ};
 ghost use Rattle.registers.specs.State.{state};
 ghost use Rattle.engine.specs.declared.answer.Answer.the-variants.{Nothing, Read};
 ghost use Rattle.engine.specs.Event.{isByte, eventOf};
-ghost use Rattle.engine.specs.Step.{after, pixelsAsIn, applied};
+ghost use Rattle.engine.specs.Step.{after, unmended, applied};
 use crate::answer::Answer;
 use crate::event::Event;
 use registers::Chip;
@@ -65,9 +65,8 @@ fn on_other_event(event: Event, chip: Chip) -> Applied
 
 // What an event does that is not refused, but for the pixels by value. The count is up to date, and is the event's number.
 pub fn apply(event: u16, number: u64, chip: Chip, memory: &mut [u8], writers: &mut [u64]) -> Applied
-    ensures { λ r. ⌜ pixelsAsIn (applied (eventOf event) (state chip (now (memory .entry)) (now (writers .entry)) number))
-        (r .answer) (r .chip) (now (memory .exit)) (now (writers .exit)) number
-        ≡ applied (eventOf event) (state chip (now (memory .entry)) (now (writers .entry)) number) ⌝ }
+    ensures { λ r. ⌜ after (r .answer) (r .chip) (now (memory .exit)) (now (writers .exit)) number
+        ≡ unmended (chip .pixels) (applied (eventOf event) (state chip (now (memory .entry)) (now (writers .entry)) number)) ⌝ }
 {
     if event < 256 {
         return crate::byte::on_byte(event as u8, number, chip, memory, writers);

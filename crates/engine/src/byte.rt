@@ -7,7 +7,7 @@ ghost use Rattle.registers.specs.Record.{inPhase};
 ghost use Rattle.registers.specs.State.{state};
 ghost use Rattle.engine.specs.declared.answer.Answer.the-variants.{NotAcknowledged};
 ghost use Rattle.phases.specs.Phases.{isAddressed, phaseAfterAddress, awaitsContent};
-ghost use Rattle.engine.specs.Step.{after, pixelsAsIn, acknowledge, contentOf, onByte};
+ghost use Rattle.engine.specs.Step.{after, unmended, acknowledge, contentOf, onByte};
 use crate::answer::Answer;
 use crate::apply::Applied;
 use registers::Chip;
@@ -77,9 +77,8 @@ fn content(
     memory: &mut [u8],
     writers: &mut [u64],
 ) -> Applied
-    ensures { λ r. ⌜ pixelsAsIn (contentOf rs phase byte (state chip (now (memory .entry)) (now (writers .entry)) number))
-        (r .answer) (r .chip) (now (memory .exit)) (now (writers .exit)) number
-        ≡ contentOf rs phase byte (state chip (now (memory .entry)) (now (writers .entry)) number) ⌝ }
+    ensures { λ r. ⌜ after (r .answer) (r .chip) (now (memory .exit)) (now (writers .exit)) number
+        ≡ unmended (chip .pixels) (contentOf rs phase byte (state chip (now (memory .entry)) (now (writers .entry)) number)) ⌝ }
 {
     let registers = chip.registers;
     let moved = chip.in_phase(phase);
@@ -100,9 +99,8 @@ fn content(
 
 // Content is called from one place alone, so that the chip's record is not copied for it.
 pub fn on_byte(byte: u8, number: u64, chip: Chip, memory: &mut [u8], writers: &mut [u64]) -> Applied
-    ensures { λ r. ⌜ pixelsAsIn (onByte (chip .phase) byte (state chip (now (memory .entry)) (now (writers .entry)) number))
-        (r .answer) (r .chip) (now (memory .exit)) (now (writers .exit)) number
-        ≡ onByte (chip .phase) byte (state chip (now (memory .entry)) (now (writers .entry)) number) ⌝ }
+    ensures { λ r. ⌜ after (r .answer) (r .chip) (now (memory .exit)) (now (writers .exit)) number
+        ≡ unmended (chip .pixels) (onByte (chip .phase) byte (state chip (now (memory .entry)) (now (writers .entry)) number)) ⌝ }
 {
     let phase = chip.phase;
     if phases::byte::awaits_content(phase) {

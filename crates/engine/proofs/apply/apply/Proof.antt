@@ -1,7 +1,9 @@
 use mathlib.Core.Path.{ap, _∙_}
 use Rattle.engine.specs.Event.{isByte}
 use Rattle.engine.proofs.Events.{other-event}
-use Rattle.engine.proofs.CodeWays.{byte-applied, other-applied, carried, as-whole}
+use Rattle.engine.proofs.CodeWays.{byte-applied, other-applied, other-still, none-moved}
+use Rattle.engine.proofs.Pixels.{applied-kept}
+use Rattle.engine.specs.Step.{unmended}
 use borrow.Author.Needs.{needs}
 use Rattle.engine.proofs.apply.apply.Statement.{statement}
 use Rattle.engine.proofs.apply.apply.Tie as tie
@@ -21,7 +23,8 @@ same-length-2 c = search needs
 returns : tie.Need-returns
 returns c =
     let acted = c .before .before .before .before in
-    carried _ (acted .on-byte .result .chip) _ _ _ _ _ (byte-applied _ _ (acted .before .before .before .if1 .taken)) (acted .on-byte .ensures)
+    let args = acted .before .before .before .before .before .before .args in
+    acted .on-byte .ensures ∙ ap (unmended (args .chip .pixels)) (byte-applied _ _ (acted .before .before .before .if1 .taken))
 
 of-requires : tie.Need-of-requires
 of-requires c κs = search needs
@@ -31,8 +34,9 @@ on-other-event-requires c κs = ap isByte (c .of .ensures) ∙ other-event _ (c 
 
 returns-2 : tie.Need-returns-2
 returns-2 c =
-    carried _ (c .on-other-event .result .chip) _ _ _ _ _ (other-applied (c .before .before .before .before .before .args .event) _ _ (c .before .of .ensures))
-    (as-whole _ _ _ _ _ _ (c .on-other-event .ensures _ _ _))
+    let args = c .before .before .before .before .before .args in
+    none-moved _ _ _ (c .on-other-event .ensures _ _ _ ∙ other-applied (args .event) _ _ (c .before .of .ensures))
+    (applied-kept _ _ (other-still (args .event) _ (c .before .before .if1 .left)))
 
 pub apply-spec : {M : Type 1} → statement M
 apply-spec =

@@ -1,17 +1,10 @@
-use mathlib.Core.Bool.{Bool, true, false, not}
-use mathlib.Core.Path.{_≡_, refl, sym, _∙_}
+use mathlib.Core.Path.{refl, sym, _∙_}
 use borrow.Author.Tests.{lt-ltb, le-ltb, not-true, not-false}
-use lib.Dec.{eqb}
-use Rattle.registers.specs.Refusals.{refuse}
+use Rattle.engine.proofs.CodeWays.{fit-number}
 use Rattle.engine.specs.Step.{pixelRefusal}
 use borrow.Author.Needs.{needs}
 use Rattle.engine.proofs.mending.upon.Statement.{statement}
 use Rattle.engine.proofs.mending.upon.Tie as tie
-
--- what fits is what 16 does not refuse
-told : (t : Bool) → t ≡ eqb (refuse (not t) 16) 0
-told true = refl
-told false = refl
 
 returns : tie.Need-returns
 unfolding pixelRefusal
@@ -36,7 +29,7 @@ returns-3 c =
     let phase = c .before .before in
     let byte = lt-ltb _ _ (phase .before .if1 .left) in
     let rs = sym (phase .rs .ensures) ∙ not-false _ (c .before .if2 .left) in
-    (c .mend .ensures .0 ∙ simp (byte, rs) (told _), c .mend .ensures .1 ∙ simp (byte, rs))
+    (c .mend .ensures .0 ∙ simp (byte, rs) (fit-number _), c .mend .ensures .1 ∙ simp (byte, rs))
 
 pub upon-spec : {M : Type 1} → statement M
 upon-spec = tie.close (tie.spec returns rs-requires returns-2 cast-mend mend-requires returns-3)
