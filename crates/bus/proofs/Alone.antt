@@ -247,15 +247,17 @@ pub played-fit : (xs : List Sent) (b : Bus) → BusFit (b .devices) → BusFit (
 played-fit [] b fit = fit
 played-fit (x ∷ xs) b fit = played-fit xs (stepped x b) (stepped-fit x b fit)
 
--- and so do true counts
-pub stepped-true : (x : Sent) (b : Bus) → BusFit (b .devices) → AllTrue (b .devices) → AllTrue (stepped x b .devices)
-unfolding busStepOf busAccepted
-stepped-true x b fit t = go (refusalAt x b)
+-- true counts stay true: an event that is accepted finds devices that pass, and a refused one changes none
+pub stepped-true : (x : Sent) (b : Bus) → AllTrue (b .devices) → AllTrue (stepped x b .devices)
+stepped-true x b t = go (refusalAt x b) refl
   where
-    go : (r : ℕ) → AllTrue (unlessRefused r (busAccepted (x .event) (x .pins) b) b .bus .devices)
-    go zero = all-true-after (x .event) (x .pins) (b .count + 1) (b .devices) (fit .long) (fit .allowed) t
-    go (suc r) = t
+    go : (r : ℕ) → refusalAt x b ≡ r → AllTrue (stepped x b .devices)
+    go zero h =
+        let fit = accepted-bus-fit (x .event) (x .pins) b h in
+        subst AllTrue (sym (Reach.devices-after (x .event) (x .pins) b h))
+        (all-true-after (x .event) (x .pins) (b .count + 1) (b .devices) (fit .long) (fit .allowed) t)
+    go (suc r) h = subst (λ (a : Bus). AllTrue (a .devices)) (sym (refused-stepped x b r h)) t
 
-pub played-true : (xs : List Sent) (b : Bus) → BusFit (b .devices) → AllTrue (b .devices) → AllTrue (busPlayed xs b .devices)
-played-true [] b fit t = t
-played-true (x ∷ xs) b fit t = played-true xs (stepped x b) (stepped-fit x b fit) (stepped-true x b fit t)
+pub played-true : (xs : List Sent) (b : Bus) → AllTrue (b .devices) → AllTrue (busPlayed xs b .devices)
+played-true [] b t = t
+played-true (x ∷ xs) b t = played-true xs (stepped x b) (stepped-true x b t)

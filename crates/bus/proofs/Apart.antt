@@ -65,8 +65,8 @@ module _ (t : Turn) (x y : Sent) (a b : Bus) (level : Level a b) (alike : Alike 
       record {
         fit-first = stepped-fit x a (level .fit-first);
         fit-second = stepped-fit y b (level .fit-second);
-        true-first = stepped-true x a (level .fit-first) (level .true-first);
-        true-second = stepped-true y b (level .fit-second) (level .true-second);
+        true-first = stepped-true x a (level .true-first);
+        true-second = stepped-true y b (level .true-second);
         same-count = go (refusalAt x a) refl;
       }
     where

@@ -88,7 +88,7 @@ module _ (b : Bus) (fit : BusFit (b .devices)) (t : AllTrue (b .devices)) (room 
     started-fit = stepped-fit (sent 256 0) b fit
 
     started-true : AllTrue (started .devices)
-    started-true = stepped-true (sent 256 0) b fit t
+    started-true = stepped-true (sent 256 0) b t
 
     on-started : isOn q (started .devices) ≡ true
     on-started = stays-on (OnBus q) (deviceWith q) (by-pins q) (sent 256 0) b on-q
@@ -113,7 +113,7 @@ module _ (b : Bus) (fit : BusFit (b .devices)) (t : AllTrue (b .devices)) (room 
     -- and a control byte after them
     control-taken : (e : ℕ) → e ≤ 255 → refusalAt (sent e 0) opened ≡ 0
     control-taken e low =
-        taken e opened (stepped-fit (sent (writeAddress p) 0) started started-fit) (stepped-true (sent (writeAddress p) 0) started started-fit started-true)
+        taken e opened (stepped-fit (sent (writeAddress p) 0) started started-fit) (stepped-true (sent (writeAddress p) 0) started started-true)
         (omega arith) (omega (arith, count-opened))
 
     on-opened : isOn q (opened .devices) ≡ true

@@ -55,8 +55,8 @@ module _ (e k : ℕ) (b : Bus) where
       go (suc r) h = rw (Refusals.refused-changes-nothing e k b r h) sound
 
   -- true counts of pixels stay true after every event, and are never a reason for 16
-  pub stays-true : Sound (b .devices) → AllTrue (b .devices) → AllTrue (busStepOf e k b .bus .devices)
-  stays-true sound t = stepped-true (sent e k) b (Refusals.sound-fit (b .devices) .1 sound) t
+  pub stays-true : AllTrue (b .devices) → AllTrue (busStepOf e k b .bus .devices)
+  stays-true t = stepped-true (sent e k) b t
 
   pub true-never-16 : AllTrue (b .devices) → busRefusal e k b ≡ 16 → ⊥
   true-never-16 = Refusals.true-never-16 e k b

@@ -60,10 +60,11 @@ own-way-at = Alone.own-way-at
 pub count-after : (xs : List Sent) (b : Bus) → busPlayed xs b .count ≡ b .count + length (acceptedOf xs b)
 count-after = Alone.count-after
 
--- chips that pass still do after any stream, and their counts of pixels, where they are true, are so then
-pub still-true : (xs : List Sent) (b : Bus) → BusFit (b .devices) → AllTrue (b .devices) → AllTrue (busPlayed xs b .devices)
+-- true counts of pixels are true after any stream
+pub still-true : (xs : List Sent) (b : Bus) → AllTrue (b .devices) → AllTrue (busPlayed xs b .devices)
 still-true = Alone.played-true
 
+-- chips that pass still do after any stream
 pub still-passes : (xs : List Sent) (b : Bus) → BusFit (b .devices) → BusFit (busPlayed xs b .devices)
 still-passes = Alone.played-fit
 

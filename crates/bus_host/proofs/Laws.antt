@@ -1,8 +1,8 @@
 -- The host's call for a bus is refused exactly when the documents say, and then changes no buffer and not the count; its number tells the bus's answer.
 use mathlib.Core.Bool.{Bool, true, false, not, _&&_}
-use mathlib.Core.List.{List, map}
+use mathlib.Core.List.{List, [], _∷_, map}
 use mathlib.Core.Logic.{_↔_}
-use mathlib.Core.Path.{_≡_, refl, sym, ap, _∙_}
+use mathlib.Core.Path.{_≡_, refl, sym, ap, _∙_, subst}
 use Prim.Native.Nat.{ℕ, zero, suc, _-_, _^_, _≤_, _<_, _+_}
 use native.Mathlib.Omega.{arith}
 use borrow.Author.Tests.{ne-eqb, lt-leb}
@@ -13,13 +13,14 @@ use Rattle.engine.specs.declared.answer.Answer.{Answer}
 use Rattle.engine.specs.Event.{numberOf, isAcknowledged}
 use Rattle.engine.proofs.Numbers.{NoRefusal, no-refusal-number, same-answer}
 use Rattle.bus.specs.Answers.{Acknowledges}
-use Rattle.bus.specs.Bus.{Bus, bus, Somewhere, every}
+use Rattle.bus.specs.Bus.{Device, Bus, bus, Somewhere, every, AllTrue}
 use Rattle.bus.specs.Refusals.{devicesRefusal, isSensorReading, sentRefusal, countsFit, pixelsRefusalFor, busRefusal}
 use Rattle.bus.specs.Step.{busStepOf}
 use Rattle.bus.proofs.Laws as by-bus
-use Rattle.bus_host.specs.Buffers.{Lent, deviceIn, hasLengths, hasRecord, everyLent}
+use Rattle.bus_host.specs.Buffers.{Lent, deviceIn, lentBy, hasLengths, hasRecord, everyLent}
 use Rattle.bus_host.specs.BusCall.{Called, called, noRecordFor, afterBusStep, busCall, tellsAcknowledge}
 use Rattle.bus_host.specs.BusCall.{pinsWordsDiffer, phaseWordsAgree, lentRefusal, busCallRefusal}
+use Rattle.record_words.proofs.Laws.{chip-words-chip}
 use Rattle.bus_host.proofs.Devices.{long-in, allowed-in, share-in, lent-back}
 use Rattle.bus_host.proofs.Numbers.{bus-answers, acknowledge-told}
 
@@ -51,6 +52,11 @@ refusal-tells-none r h = simp (ne-eqb r 257 (λ q. omega arith), lt-leb 259 r (o
 never-none : (t : Bool) → noRecordFor t ≡ 0 → ⊥
 never-none true q = omega arith
 never-none false q = omega arith
+
+-- devices in words are those devices
+devices-back : (ds : List Device) → map deviceIn (map lentBy ds) ≡ ds
+devices-back [] = refl
+devices-back (d ∷ ds) = rw (chip-words-chip (d .chip), devices-back ds)
 
 module _ (e k : ℕ) (ls : List Lent) (n : ℕ) where
   refusal-in : everyLent hasRecord ls ≡ true → busRefusal e k (bus (map deviceIn ls) n) ≡ busCallRefusal e k ls n
@@ -158,3 +164,31 @@ module _ (e k : ℕ) (ls : List Lent) (n : ℕ) where
   -- a call that is not refused adds 1 to the count
   pub bus-adds : busCallRefusal e k ls n ≡ 0 → busCall e k ls n .count ≡ n + 1
   bus-adds q = ap (λ (c : Called). c .count) (bus-accepted q) ∙ by-bus.count-law e k (bus (map deviceIn ls) n) (bus-accepts q)
+
+  -- ---- the counts of pixels
+
+  -- true before a call, true after it, whatever is lent and whether it is refused or not
+  pub bus-stays-true : AllTrue (map deviceIn ls) → AllTrue (map deviceIn (busCall e k ls n .buffers))
+  unfolding busCall
+  bus-stays-true t = go (everyLent hasRecord ls) refl
+    where
+      go : (r : Bool) → everyLent hasRecord ls ≡ r → AllTrue (map deviceIn (busCall e k ls n .buffers))
+      go true h =
+          rw h
+          (subst AllTrue (sym (devices-back (busStepOf e k (bus (map deviceIn ls) n) .bus .devices))) (by-bus.stays-true e k (bus (map deviceIn ls) n) t))
+      go false h = rw h t
+
+  -- and never a reason for 16
+  pub bus-never-16 : AllTrue (map deviceIn ls) → busCall e k ls n .number ≡ 16 → ⊥
+  bus-never-16 t q = go (everyLent hasRecord ls) refl
+    where
+      sixteen : busCallRefusal e k ls n ≡ 16
+      sixteen = refused-exactly 15 (omega arith) .0 q
+
+      one-or-two : (r : Bool) → noRecordFor r ≡ 16 → ⊥
+      one-or-two true z = omega arith
+      one-or-two false z = omega arith
+
+      go : (r : Bool) → everyLent hasRecord ls ≡ r → ⊥
+      go true h = by-bus.true-never-16 e k (bus (map deviceIn ls) n) t (refusal-in h ∙ sixteen)
+      go false h = one-or-two (everyLent hasLengths ls) (sym (refused-unread h) ∙ sixteen)

@@ -78,7 +78,7 @@ fn first_of(first: u8, later: u8) -> u8
 }
 
 // 16: of some chip a count of pixels would leave its range.
-fn of_pixels(fit: bool) -> u8
+fn of_fit(fit: bool) -> u8
     ensures { λ r. ⌜ r ≡ pixelsRefusalFor fit ⌝ }
 {
     if fit { 0 } else { 16 }
@@ -92,5 +92,5 @@ pub fn of_step(event: u16, pins: u64, chips: Chips, count: u64, long: bool, fit:
 {
     let of_devices = of_devices(chips, long);
     let of_event = of_event(event, pins, count);
-    first_of(of_devices, first_of(of_event, of_pixels(fit)))
+    first_of(of_devices, first_of(of_event, of_fit(fit)))
 }

@@ -1,8 +1,6 @@
 // One chip's part in an event of the bus.
-ghost use mathlib.Core.List.{[]};
 ghost use mathlib.Core.Path.{_≡_};
 ghost use Rattle.bus.specs.Bus.{device};
-ghost use Rattle.bus.specs.Refusals.{countsFit};
 ghost use Rattle.bus_step.specs.Part.{part, partOf};
 use engine::answer::Answer;
 use registers::Chip;
@@ -37,11 +35,4 @@ pub fn hear(
     let answer = stepped.answer;
     let chip = stepped.chip;
     Heard { answer, chip }
-}
-
-// The chip takes the event without leaving the range of a count of pixels.
-pub fn counts_fit(event: u16, chip: Chip, memory: &[u8]) -> bool
-    ensures { λ r. ⌜ r ≡ countsFit event (device chip (now (memory .entry)) []) ⌝ }
-{
-    engine::refusal::of_pixels(event, chip, memory) == 0
 }

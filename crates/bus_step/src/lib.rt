@@ -9,6 +9,7 @@ ghost use Rattle.bus_step.specs.Part.{deviceBy, answerBy};
 use bus_refusals::Chips;
 use bus_refusals::is_long;
 use engine::answer::Answer;
+use engine::fitting::counts_fit;
 
 mod device;
 
@@ -71,7 +72,7 @@ fn deliver(
     }
 }
 
-// All four do.
+// Whether the event leaves every count of pixels of all four chips in its range.
 fn all_fit(
     event: u16,
     chips: Chips,
@@ -83,10 +84,9 @@ fn all_fit(
     ensures { λ r. ⌜ r ≡ every (countsFit event)
         (four chips (now (memory0 .entry)) [] (now (memory1 .entry)) [] (now (memory2 .entry)) [] (now (memory3 .entry)) []) ⌝ }
 {
-    device::counts_fit(event, chips.chip0, memory0)
-        & (device::counts_fit(event, chips.chip1, memory1)
-            & (device::counts_fit(event, chips.chip2, memory2)
-                & device::counts_fit(event, chips.chip3, memory3)))
+    counts_fit(event, chips.chip0, memory0)
+        & (counts_fit(event, chips.chip1, memory1)
+            & (counts_fit(event, chips.chip2, memory2) & counts_fit(event, chips.chip3, memory3)))
 }
 
 // One event: refused with the same records, memories and count, or accepted. The pins are those that a sensor reading names.

@@ -1,6 +1,6 @@
 -- Wrong chips, in how they keep the pixels by value (document 02, W8): rows of the table of wrong chips.
 use mathlib.Core.List.{List, [], _∷_, _++_}
-use Prim.Native.Nat.{ℕ, _+_, _-_, _^_}
+use Prim.Native.Nat.{_-_, _^_}
 use Rattle.cases_proved.specs.Cited.{DO, MX, Y}
 use Rattle.cases_proved.specs.Behaviour.{Behaviour, pixels, count, cell, leave, answer, runLeaves, runDone, runRefusal}
 use Rattle.cases_proved.specs.Behaviour.{START, RESET, nothing, acknowledged, commandTaken, commands, displayBytes}

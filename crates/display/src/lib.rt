@@ -111,7 +111,8 @@ pub fn display_byte(
     moved_on(registers)
 }
 
-// Whether there are counts of pixels after this display byte: the byte that stands at the address leaves, and the byte as it is stored joins.
+// Whether every count of pixels stays from 0 to 6,767 at this display byte: the byte that stands at the address leaves, the byte as it is stored joins.
+// A bus asks this before it lets the chip take the byte.
 pub fn pixels_fit(registers: Registers, pixels: PixelCounts, memory: &[u8], byte: u8) -> bool
     ensures { λ r. ⌜ r ≡ pixelsFit registers pixels (now (memory .entry)) byte ⌝ }
 {
@@ -119,7 +120,7 @@ pub fn pixels_fit(registers: Registers, pixels: PixelCounts, memory: &[u8], byte
     pixel_counts::mending::mendable(pixels, at, entry(memory, at), stored(registers, byte))
 }
 
-// The same, with the counts then, made before the byte is stored: for the chip that takes it.
+// The same, and the counts then. They are made before the byte is stored.
 pub fn mend(registers: Registers, pixels: PixelCounts, memory: &[u8], byte: u8) -> Mended
     ensures { λ r. ⌜ r .fit ≡ pixelsFit registers pixels (now (memory .entry)) byte ⌝ }
     ensures { λ r. ⌜ r .pixels ≡ pixelsAfter registers pixels (now (memory .entry)) byte ⌝ }

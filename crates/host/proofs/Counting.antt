@@ -1,21 +1,24 @@
 -- Counts of pixels by calls alone: what a counting start gives, and that true counts stay true in the words of a record.
-use mathlib.Core.Bool.{Bool, true, false}
-use mathlib.Core.List.{List}
+use mathlib.Core.Bool.{Bool, true, false, _&&_}
+use mathlib.Core.List.{List, []}
 use mathlib.Core.Path.{_≡_, refl, sym, ap, _∙_}
 use Prim.Native.Nat.{ℕ, zero, suc, _+_}
 use native.Mathlib.Omega.{arith}
 use borrow.Author.Tests.{eq-eqb, ne-eqb}
-use lib.ListN.{length}
-use Rattle.registers.specs.Record.{pixels}
+use lib.Dec.{eqb, leb}
+use lib.ListN.{length, replicate}
+use Rattle.registers.specs.declared.Chip.{Chip}
+use Rattle.registers.specs.Record.{pixels, resetChip, withPixels}
 use Rattle.registers.specs.State.{State, state, places}
 use Rattle.pixel_counts.specs.Counts.{countOf, countsOf, countingStart, TrueCounts}
-use Rattle.pixel_counts.proofs.Laws.{counts-add}
+use Rattle.pixel_counts.proofs.Laws.{counts-add, zeros-cleared}
 use Rattle.engine.specs.Event.{numberOf}
+use Rattle.engine.specs.Run.{runOf}
 use Rattle.engine.specs.Step.{After, refusalOf, stepOf}
 use Rattle.engine.proofs.Numbers.{no-refusal-number}
-use Rattle.chip.proofs.Laws.{refused, stays-true, true-never-16}
-use Rattle.record_words.specs.Words.{standsFor, chipOf, wordsOf}
-use Rattle.host.specs.Calls.{Stepped, stepCall}
+use Rattle.chip.proofs.Laws.{refused, stays-true, run-stays-true, true-never-16}
+use Rattle.record_words.specs.Words.{recordLength, standsFor, chipOf, wordsOf}
+use Rattle.host.specs.Calls.{resetCall, Stepped, stepCall, runCall}
 use Rattle.host.specs.Counting.{Counts, counts, countsCall, TrueWords}
 use Rattle.host.specs.Playing.{Buffers, stepOn}
 use Rattle.host.proofs.Refusals.{one-or-two}
@@ -63,7 +66,33 @@ step-stays-true e ws m w count t = go (standsFor ws) refl
     go true h = rw h (true-words (stepOf e s .state) (stays-true e s (true-chip ws m w count t)))
     go false h = rw h t
 
--- and never gives 16
+-- and so over a call of pcf8820_run
+pub run-stays-true-by-call :
+    (es ws m w : List ℕ) (count : ℕ) → TrueWords ws m → TrueWords (runCall es ws m w count .words) (runCall es ws m w count .memory)
+unfolding runCall
+run-stays-true-by-call es ws m w count t = go (standsFor ws) refl
+  where
+    s : State
+    s = state (chipOf ws) m w count
+
+    go : (b : Bool) → standsFor ws ≡ b → TrueWords (runCall es ws m w count .words) (runCall es ws m w count .memory)
+    go true h = rw h (true-words (runOf es s .state) (run-stays-true es s (true-chip ws m w count t)))
+    go false h = rw h t
+
+-- where they begin: after pcf8820_reset over a memory of zeros, and in any record that gets the four numbers of pcf8820_counts
+pub reset-is-true :
+    (ws : List ℕ) (pins : ℕ) → resetCall pins ws .number ≡ 0 → TrueWords (resetCall pins ws .words) (replicate places 0)
+unfolding resetCall
+reset-is-true ws pins q = go (eqb (length ws) recordLength && leb pins 3) refl
+  where
+    go : (b : Bool) → eqb (length ws) recordLength && leb pins 3 ≡ b → TrueWords (resetCall pins ws .words) (replicate places 0)
+    go true h = rw h (true-words (state (resetChip pins) (replicate places 0) [] 0) (sym (zeros-cleared places)))
+    go false h = let z : _≡_ {A = ℕ} 2 0 = sym (rw h) ∙ q in absurd (omega arith)
+
+pub counted-is-true : (c : Chip) (m : List ℕ) → TrueWords (wordsOf (withPixels c (countsOf m))) m
+counted-is-true c m = true-words (state (withPixels c (countsOf m)) m [] 0) refl
+
+-- a step from true counts never gives 16
 pub step-never-16 : (e : ℕ) (ws m w : List ℕ) (count : ℕ) → TrueWords ws m → stepCall e ws m w count .number ≡ 16 → ⊥
 step-never-16 e ws m w count t q = go (standsFor ws) refl
   where

@@ -18,7 +18,7 @@ use Rattle.compiler.specs.declared.answer.Compiled.the-variants.{Done, Refused,
 use Rattle.compiler.specs.Compile.{compileOf, numbersOf}
 use Rattle.compiler.specs.When.{NotRead}
 use Rattle.compiler.proofs.Laws.{two-exactly, exactly-when, demand-3-promised}
-use Rattle.engine.specs.Step.{Fit, eventRefusal, refusalOf, accepted, stepOf}
+use Rattle.engine.specs.Step.{Fit, refusalOf, accepted, stepOf}
 use Rattle.engine.specs.Run.{runFrom, runOf, tally}
 use Rattle.engine.proofs.Numbers.{command-numbers}
 use Rattle.engine.proofs.Tallies.{tally-refused}

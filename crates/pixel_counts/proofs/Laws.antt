@@ -7,10 +7,10 @@ use Prim.Native.Nat.{ℕ, zero, suc, _+_, _*_, _/_, _%_, _-_, _≤_, _<_}
 use native.Mathlib.Nat.{zero-div}
 use native.Mathlib.Omega.{arith}
 use borrow.Author.Tests.{leb-true, leb-false, le-leb, eq-eqb, ne-eqb}
-use lib.Dec.{leb, eqb}
+use lib.Dec.{leb}
 use lib.ListN.{getD, length, set, replicate}
 use Rattle.registers.specs.declared.PixelCounts.{PixelCounts}
-use Rattle.registers.specs.Record.{pixels, counts, countFor, byValue, cleared, countLimits, allowedCounts}
+use Rattle.registers.specs.Record.{pixels, countFor, byValue, cleared, allowedCounts}
 use Rattle.registers.specs.State.{places}
 use Rattle.registers.proofs.Below.{true-false}
 use Rattle.registers.proofs.Within.{both-left, both-right, count-bound}

@@ -1,16 +1,14 @@
 -- Pixels row by row are the pixels of the bytes place by place: so a byte that is stored moves a count by what it takes off and puts on.
-use mathlib.Core.Bool.{Bool, true, false, cond}
 use mathlib.Core.List.{List}
-use mathlib.Core.Path.{_≡_, refl, sym, ap, _∙_}
+use mathlib.Core.Path.{_≡_, refl, sym, _∙_}
 use Prim.Native.Nat.{ℕ, zero, suc, _+_, _*_, _/_, _%_, _≤_, _<_}
-use native.Mathlib.Decide.{decLt, ℕ-discrete}
+use native.Mathlib.Decide.{ℕ-discrete}
 use native.Mathlib.Omega.{arith}
 use borrow.Author.Tests.{lt-ltb, le-ltb}
-use lib.Dec.{ltb}
 use lib.ListN.{getD, length, set}
 use lib.Seq.{getD-set-same, getD-set-other}
-use Rattle.glass.specs.Pixel.{placeAt, valueIn}
-use Rattle.pixel_counts.specs.Counts.{ofValue, valueAt, inRow, inRows, countOf}
+use Rattle.glass.specs.Pixel.{valueIn}
+use Rattle.pixel_counts.specs.Counts.{ofValue, inRow, inRows, countOf}
 use Rattle.pixel_counts.specs.Mending.{tally, pixelsAt, shown}
 
 -- ---- place by place

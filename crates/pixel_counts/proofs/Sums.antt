@@ -1,10 +1,8 @@
 -- Every pixel has one of the four values: over a byte, a row and the whole glass.
-use mathlib.Core.Bool.{cond}
 use mathlib.Core.List.{List}
 use mathlib.Core.Path.{_≡_, refl}
-use Prim.Native.Nat.{ℕ, zero, suc, _+_, _*_, _/_, _%_, _≤_, _<_}
+use Prim.Native.Nat.{ℕ, zero, suc, _+_, _*_, _%_, _≤_, _<_}
 use native.Mathlib.Omega.{arith}
-use lib.Dec.{eqb}
 use Rattle.glass.specs.Pixel.{valueIn}
 use Rattle.pixel_counts.specs.Counts.{ofValue, valueAt, inRow, inRows, countOf}
 

@@ -4,7 +4,8 @@ ghost use Rattle.pixel_counts.specs.Mending.{fits, moved, allFit, allMov
 use crate::shown::shown;
 use registers::PixelCounts;
 
-// Whether there are such counts, of all four values, and the counts then.
+// The counts of the four values after a byte has taken another's place. Where one of them would leave its range, `fit` is false, and the counts mean
+// nothing.
 pub struct Mended {
     pub fit: bool,
     pub pixels: PixelCounts,
@@ -55,7 +56,7 @@ pub fn mendable(pixels: PixelCounts, place: usize, old: u8, new: u8) -> bool
     all_fit(pixels, shown(place, old), shown(place, new))
 }
 
-// The same, with the counts then: both at once, for a display byte that is taken at all.
+// The same, and the counts then: the bytes are looked at once for both.
 pub fn mend(pixels: PixelCounts, place: usize, old: u8, new: u8) -> Mended
     ensures { λ r. ⌜ r .fit ≡ mendable pixels place old new ⌝ }
     ensures { λ r. ⌜ r .pixels ≡ mended pixels place old new ⌝ }

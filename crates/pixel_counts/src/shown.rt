@@ -1,7 +1,7 @@
 // The pixels that a byte shows, by value.
 ghost use mathlib.Core.Path.{_≡_};
 ghost use Prim.Native.Nat.{_^_, _≤_, _<_};
-ghost use Rattle.registers.specs.Record.{byValue, countFor};
+ghost use Rattle.registers.specs.Record.{byValue};
 ghost use Rattle.pixel_counts.specs.Mending.{shown};
 ghost use Rattle.pixel_counts.specs.Packed.{packedAt};
 use registers::PixelCounts;

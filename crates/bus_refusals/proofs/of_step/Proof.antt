@@ -12,8 +12,8 @@ of-devices-requires c κs = search needs
 of-event-requires : tie.Need-of-event-requires
 of-event-requires c κs = search needs
 
-of-pixels-requires : tie.Need-of-pixels-requires
-of-pixels-requires c κs = search needs
+of-fit-requires : tie.Need-of-fit-requires
+of-fit-requires c κs = search needs
 
 first-of-requires : tie.Need-first-of-requires
 first-of-requires c κs = search needs
@@ -24,7 +24,7 @@ first-of-requires-2 c κs = search needs
 returns : tie.Need-returns
 returns c =
     let later = c .before .first-of in
-    let pixels = c .before .before .of-pixels in
+    let pixels = c .before .before .of-fit in
     let sent = c .before .before .before .of-event in
     let devices = c .before .before .before .before .of-devices in
     let rest = then-told _ (sent .result) (pixels .result) _ _ (later .ensures) (sent .ensures) (pixels .ensures) in (
@@ -37,4 +37,4 @@ returns c =
 pub of-step-spec : {M : Type 1} → statement M
 of-step-spec =
     tie.close
-    (tie.spec of-devices-requires of-event-requires of-pixels-requires first-of-requires first-of-requires-2 returns)
+    (tie.spec of-devices-requires of-event-requires of-fit-requires first-of-requires first-of-requires-2 returns)

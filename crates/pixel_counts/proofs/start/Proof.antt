@@ -1,5 +1,3 @@
-use mathlib.Core.Path.{sym, _∙_}
-use Rattle.pixel_counts.specs.Counts.{countingStart}
 use Rattle.pixel_counts.proofs.CodeWays.{start-refused, start-done}
 use borrow.Author.Needs.{needs}
 use Rattle.pixel_counts.proofs.start.Statement.{statement}
