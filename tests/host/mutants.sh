@@ -12,14 +12,16 @@ mutant 'memory cleared at reset' \
     's/^    chip->now\[TR\] = 0;/& if (chip->memory) memset(chip->memory, 0, PLACES);/'
 mutant 'writers cleared at reset' \
     's/^    chip->now\[TR\] = 0;/& if (chip->writers) memset(chip->writers, 0, 8 * PLACES);/'
-mutant 'bank 16 masked before the swap' \
-    's/byte &= 0x3F/(void)0/; s/if (chip->now\[DO\])/if (chip->now[Y] == 16) byte \&= 0x3F; &/'
 mutant 'endless bytes end after one' \
     's/if (chip->now\[PHASE\] == ONE_BYTE)/if (true)/'
 mutant 'power-down dropped with the address mode' \
     's/"dpv", { DO, PD, V }/"d-v", { DO, PD, V }/'
+model=display
+mutant 'bank 16 masked before the swap' \
+    's/byte &= 0x3F/(void)0/; s/if (chip->now\[DO\])/if (chip->now[Y] == 16) byte \&= 0x3F; &/'
 mutant 'writer number of 32 bits' \
     's/writers\[place\] = chip->count/writers[place] = (uint32_t)chip->count/'
+model=model
 
 # Reset.
 mutant 'pins cleared at reset' 's/w <= OC/w <= SA/'
@@ -44,9 +46,12 @@ mutant 'level always to grey register 0' 's/field = GS0 + chip->now\[GR\]/field 
 mutant '63 stored in a grey register as 64' \
     's/now\[field\] = effect->value\[i\]/& + (field >= GS0 \&\& field <= GS3 \&\& effect->value[i] == 63)/'
 mutant 'row block swapping changes a field' 's/"010tb000", "", { 0 }/"010tb000", "t", { OC }/'
+model=display
 mutant 'a bit lost in the swap' 's/b & 0xAA/b \& 0x8A/'
 mutant 'mirror X ignored' 's/chip->now\[MX\] ?/0 ?/'
 mutant 'last place does not wrap' 's/advance(y, BANKS - 1, x, COLUMNS - 1)/advance(y, 16, x, 101)/'
+mutant 'display byte told as taken' '/^uint64_t take_display_byte(/,/^}/ s/return ACK;/return TAKEN;/'
+model=model
 
 # Answers to commands.
 mutant 'plain acknowledge for a command' 's/return effect->answer;/return ACK;/'
@@ -89,7 +94,6 @@ mutant 'answer by the page after the command' \
 mutant 'answer as in page 0' 's/return effect->answer;/return effects[0][byte].answer;/'
 mutant 'address byte told as taken' '/^static uint64_t take_address(/,/^}/ s/return ACK;/return TAKEN;/'
 mutant 'control byte told as taken' '/^static uint64_t take_control(/,/^}/ s/return ACK;/return TAKEN;/'
-mutant 'display byte told as taken' '/^static uint64_t take_display_byte(/,/^}/ s/return ACK;/return TAKEN;/'
 mutant 'display byte told as the command that it would be' \
     's/rs ? take_display_byte(chip, byte)/rs ? (take_display_byte(chip, byte), effects[chip->now[H]][byte].answer)/'
 mutant 'ignored byte told as the command that it would be' \
@@ -175,8 +179,8 @@ for number in unknown out_of_range; do
 done
 
 # The counts of pixels.
-mend='/^static bool mend_counts(/,/^}/'
-unfit='is_display_byte(chip, event) \&\& !mend_counts(chip, (uint8_t)event)'
+mend='/^bool mend_counts(/,/^}/'
+model=display
 mutant 'bits 6 and 7 of bank 16 counted' 's/return chip->now\[Y\] == BANKS - 1 ? .*/return ROWS_OF_A_BANK;/'
 mutant 'bits 6 and 7 of bank 16 counted where they leave' \
     "$mend s/\(\[place_now(chip)\], \)pixels, -1/\1ROWS_OF_A_BANK, -1/"
@@ -201,7 +205,7 @@ mutant '16 pixel by pixel, leaving first' \
 mutant '16 pixel by pixel, joining first' \
     "$mend { s/^    tally(.*, -1);//; s/^    \(tally(.*, 1);\)/    \1 for (int v = 0; v < VALUES; v++) if (counts[v] > PIXELS) return false; tally(counts, chip->memory[place_now(chip)], pixels, -1);/ }"
 mutant '16 from 6,767 on' 's/counts\[v\] > PIXELS/counts[v] >= PIXELS/'
-mutant '16 from 6,769 on' 's/counts\[v\] > PIXELS/counts[v] > PIXELS + 1/; s/\(\[PIXELS_[0-3]\] = PIXELS\),/\1 + 1,/g; s/if (record\[w\] > limit\[w\])/if (record[w] > limit[w] - (w >= PIXELS_0))/'
+mutant '16 from 6,769 on' 's/counts\[v\] > PIXELS/counts[v] > PIXELS + 1/'
 mutant '16 below 1' 's/counts\[v\] < 0/counts[v] < 1/'
 mutant '16 below 0 alone' 's/ || counts\[v\] > PIXELS//'
 mutant '16 above 6,767 alone' 's/counts\[v\] < 0 || //'
@@ -212,11 +216,16 @@ for value in 0 1 2 3; do
         "s/if (counts\[v\] < 0/if (v != $value \&\& (counts[v] < 0/; s/counts\[v\] > PIXELS)/&)/"
     mutant "value $value not mended" "$mend s/= (uint16_t)counts\[v\];/= v == $value ? chip->now[PIXELS_0 + v] : (uint16_t)counts[v];/"
 done
-mutant '16 not looked for' "s/if ($unfit)/if (is_display_byte(chip, event) \&\& !mend_counts(chip, (uint8_t)event) \&\& false)/"
 mutant 'counts cut to their range' \
     "$mend s/return false;/counts[v] = counts[v] < 0 ? 0 : PIXELS;/"
 mutant 'counts made afresh' \
     "$mend s/^    return true;/    int now[VALUES] = { 0 }; for (int p = 0; p < PLACES; p++) tally(now, p == (int)place_now(chip) ? stored(chip, byte) : chip->memory[p], p < 16 * COLUMNS ? 4 : 3, 1); for (int v = 0; v < VALUES; v++) chip->now[PIXELS_0 + v] = now[v]; &/"
+mutant 'counts mended at a refused byte' "$mend s/^            return false;/            { for (int w = 0; w < v; w++) chip->now[PIXELS_0 + w] = (uint16_t)counts[w]; return false; }/"
+mutant 'refused byte stored all the same' \
+    "$mend s/return false;/return chip->memory[place_now(chip)] = stored(chip, byte), false;/"
+model=model
+unfit='is_display_byte(chip, event) \&\& !mend_counts(chip, (uint8_t)event)'
+mutant '16 not looked for' "s/if ($unfit)/if (is_display_byte(chip, event) \&\& !mend_counts(chip, (uint8_t)event) \&\& false)/"
 mutant '16 before 4' \
     's/^    if (chip->count == UINT64_MAX)/    struct chip was = *chip; if (is_display_byte(chip, event) \&\& !mend_counts(chip, (uint8_t)event)) return BAD_PIXEL_COUNT; *chip = was; &/'
 mutant '16 before 2' \
@@ -225,14 +234,11 @@ mutant '16 for commands, too' 's/ && chip->now\[PHASE_RS\] == 1;/;/'
 mutant '16 for ignored bytes, too' 's/bool written = /bool written = chip->now[PHASE] == IGNORING || /; s/ && chip->now\[PHASE_RS\] == 1;/ \&\& (chip->now[PHASE_RS] == 1 || chip->now[PHASE] == IGNORING);/'
 mutant '16 for endless bytes alone' 's/bool written = chip->now\[PHASE\] == ONE_BYTE || /bool written = /'
 mutant '16 for single bytes alone' 's/chip->now\[PHASE\] == ONE_BYTE || chip->now\[PHASE\] == ENDLESS;$/chip->now[PHASE] == ONE_BYTE;/'
-mutant 'counts mended at a refused byte' "$mend s/^            return false;/            { for (int w = 0; w < v; w++) chip->now[PIXELS_0 + w] = (uint16_t)counts[w]; return false; }/"
 mutant 'counts mended at a byte refused by 4' \
     's/^        return COUNT_FULL;/        return is_display_byte(chip, event) \&\& mend_counts(chip, (uint8_t)event) ? COUNT_FULL : COUNT_FULL;/'
 mutant 'refused byte counted as an event' 's/return BAD_PIXEL_COUNT;/return chip->count++, BAD_PIXEL_COUNT;/; s/if (!is_refusal(result))/if (true)/'
 mutant 'refused byte moves the address' \
-    's/return BAD_PIXEL_COUNT;/return advance(\&chip->now[X], 100, \&chip->now[Y], 16), BAD_PIXEL_COUNT;/; s/if (!is_refusal(result))/if (true)/'
-mutant 'refused byte stored all the same' \
-    's/return BAD_PIXEL_COUNT;/return chip->memory[place_now(chip)] = stored(chip, (uint8_t)event), BAD_PIXEL_COUNT;/'
+    's/return BAD_PIXEL_COUNT;/return chip->now[X] = (chip->now[X] + 1) % COLUMNS, chip->now[Y] = (chip->now[Y] + (chip->now[X] == 0)) % BANKS, BAD_PIXEL_COUNT;/; s/if (!is_refusal(result))/if (true)/'
 mutant 'refused byte ends a single byte' \
     's/return BAD_PIXEL_COUNT;/{ if (chip->now[PHASE] == ONE_BYTE) chip->now[PHASE] = CONTROL, chip->now[PHASE_RS] = 0; return BAD_PIXEL_COUNT; }/; s/if (!is_refusal(result))/if (true)/'
 mutant 'counts cleared at a reset pulse' 's/^    chip->now\[LAST_RS\] = 0;/& if (chip->memory) memset(\&chip->now[PIXELS_0], 0, VALUES * sizeof chip->now[0]);/'
@@ -252,6 +258,7 @@ mutant 'run: earlier counts lost at 16' \
 mutant 'run: 16 told as 4' '/^uint64_t model_run(/,/^}/ s/refusal = result;/refusal = result == BAD_PIXEL_COUNT ? COUNT_FULL : result;/'
 
 # What the tests know of counts by themselves.
+model=display
 common_mutant 'bits 6 and 7 of bank 16 counted' 's/return chip->now\[Y\] == BANKS - 1 ? .*/return ROWS_OF_A_BANK;/'
 common_mutant 'what stood there does not leave' "$mend s/^    tally(.*, -1);//"
 common_mutant 'values 1 and 2 exchanged' 's/counts\[byte >> 2 \* k & 3\]/counts[(byte >> 2 * k \& 1) * 2 + (byte >> 2 * k + 1 \& 1)]/'
@@ -262,6 +269,7 @@ common_mutant '16 pixel by pixel, leaving first' \
 common_mutant '16 from 6,767 on' 's/counts\[v\] > PIXELS/counts[v] >= PIXELS/'
 common_mutant '16 below 0 alone' 's/ || counts\[v\] > PIXELS//'
 common_mutant '16 above 6,767 alone' 's/counts\[v\] < 0 || //'
+model=model
 common_mutant '16 before 4' \
     's/^    if (chip->count == UINT64_MAX)/    struct chip was = *chip; if (is_display_byte(chip, event) \&\& !mend_counts(chip, (uint8_t)event)) return BAD_PIXEL_COUNT; *chip = was; &/'
 common_mutant '16 for commands, too' 's/ && chip->now\[PHASE_RS\] == 1;/;/'
@@ -290,11 +298,12 @@ for number in 0 1 2 3; do
 done
 mutant 'memory cut to its pixels' 's/^    \*n0 = .*/& if (memory_len == PLACES) ((uint8_t *)memory)[PLACES - 1] \&= 0x3F;/'
 mutant 'read past the memory' 's/^    \*n0 = .*/& (void)*(volatile const uint8_t *)(memory + memory_len);/'
-model=model
 
 # Outside the buffers.
+model=display
 mutant 'write past the memory' 's/^    chip->memory\[place\] = .*/& chip->memory[PLACES] = byte;/'
 mutant 'write before the writers' 's/^    chip->writers\[place\] = .*/& chip->writers[-1] = 0;/'
+model=model
 mutant 'read past the record' \
     's/^    bool phase_has_rs = .*/& (void)*(volatile const uint64_t *)(record + WORDS);/'
 mutant 'events changed' \

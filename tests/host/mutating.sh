@@ -19,7 +19,7 @@ cc=${CC:-gcc}
 out=${TESTS_OUT:-target/tests}/mutants/$tests
 flags='-Itests/model -Itests/host -Itests/host/compile'
 header=include/pcf8820.h
-parts='model pixels four_chips glass pulses list plain compile wires'
+parts='model display pixels four_chips glass pulses list plain compile wires'
 mutants=0
 
 stop() {

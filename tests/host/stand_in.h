@@ -17,6 +17,8 @@
 #define model_row stand_in_row
 #define model_listed stand_in_listed
 #define model_pixels_fit stand_in_pixels_fit
+#define mend_counts stand_in_mend_counts
+#define take_display_byte stand_in_take_display_byte
 #define model_plain stand_in_plain
 #define plain_cells stand_in_plain_cells
 #define plain_registers stand_in_plain_registers

@@ -102,10 +102,12 @@ mutant 'counts of 8 bits told' 's/record\[PIXELS_0\]/(uint8_t)record[PIXELS_0]/'
 mutant 'refused capture told' 's/printf("refused.*/print_state(\&played);/'
 mutant 'state before a refusal' 's/printf("refused/print_state(\&played), &/'
 
-model=model
+model=display
 mutant 'what stood there does not leave' 's/^    tally(.*, -1);//'
 mutant 'counts of the byte as it was sent' 's/tally(counts, stored(chip, byte)/tally(counts, byte/'
 mutant 'counts at place X without the mirror' 's/tally(counts, chip->memory\[place_now(chip)\]/tally(counts, chip->memory[COLUMNS * chip->now[Y] + chip->now[X]]/'
+
+model=model
 mutant 'counts of a cleared memory at a reset pulse' \
     's/^    chip->now\[LAST_RS\] = 0;/& if (chip->memory) { memset(\&chip->now[PIXELS_0], 0, VALUES * sizeof chip->now[0]); chip->now[PIXELS_0] = PIXELS; }/'
 
@@ -202,7 +204,7 @@ mutant 'sensor with its 512' 's/event - SENSOR)/event)/'
 mutant 'reset with its event' 's/"reset"/"reset pulse"/'
 mutant 'capital letters' 's/"start"/"START"/'
 
-model=model
+model=display
 mutant 'bytes of bank 16 not cut' 's/byte &= 0x3F/(void)0/'
 mutant 'bytes not swapped' 's/if (chip->now\[DO\])/if (0)/'
 mutant 'counter that never moves on' 's/^    \*second = .*/    (void)second_last;/'

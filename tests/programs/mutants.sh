@@ -27,13 +27,13 @@ stop() {
 # parts PROGRAM: the model's sources that it is made of.
 parts() {
     case $1 in
-    replay) echo replay capture program model pixels ;;
-    view) echo view capture program model pixels glass ;;
-    draw) echo draw program compile plain list model ;;
-    compare) echo compare capture names program model pixels ;;
-    search) echo search program model ;;
-    who) echo who capture program model pixels glass ;;
-    state | trace) echo "$1" capture names program model pixels ;;
+    replay) echo replay capture program model display pixels ;;
+    view) echo view capture program model display pixels glass ;;
+    draw) echo draw program compile plain list model display ;;
+    compare) echo compare capture names program model display pixels ;;
+    search) echo search program model display ;;
+    who) echo who capture program model display pixels glass ;;
+    state | trace) echo "$1" capture names program model display pixels ;;
     wires) echo wires wires_program program ;;
     esac
 }
@@ -62,7 +62,7 @@ holds() {
 build_model() {
     rm -rf "$out"
     mkdir -p "$out/objects" "$out/model" "$out/tried"
-    for part in $programs wires_program capture names program compile plain list model pixels glass; do
+    for part in $programs wires_program capture names program compile plain list model display pixels glass; do
         # shellcheck disable=SC2086
         "$cc" $flags -c "tests/model/$part.c" -o "$out/objects/$part.o"
     done
