@@ -138,6 +138,12 @@ void set_byte(size_t place, uint8_t byte)
     library.memory.at[place] = byte;
 }
 
+void fill_memory(uint8_t byte, uint8_t of_last_bank)
+{
+    for (size_t place = 0; place < PLACES; place++)
+        set_byte(place, place < FIRST_OF_LAST_BANK ? byte : of_last_bank);
+}
+
 void set_true_pixels(void)
 {
     set_pixels(words_of(&model.record), library.memory.at);
@@ -189,6 +195,13 @@ void expect_state(const char *what, const struct state *state)
         || memcmp(state->writers, library.writers.at, library.writers.bytes) != 0
         || state->count != *words_of(&library.count))
         fail("the state is another: %s", what);
+}
+
+void expect_result(const char *what, uint64_t result, uint64_t right)
+{
+    if (result != right)
+        fail("%s: the result is %llu, not %llu", what, (unsigned long long)result,
+             (unsigned long long)right);
 }
 
 void expect_ran(const char *what, const struct ran *ran, const struct ran *right)

@@ -13,7 +13,7 @@
 #include <stdint.h>
 
 enum {
-    PLACES = 1717, MOST_PLACES = PLACES + 1,
+    PLACES = 1717, FIRST_OF_LAST_BANK = 1616, MOST_PLACES = PLACES + 1,
     RECORD_LEN = 38, MOST_WORDS = RECORD_LEN + 1,
     MOST_EVENTS = 80000
 };
@@ -52,6 +52,9 @@ void set_count(uint64_t count);
 /* Puts a byte into the memory of both sides. */
 void set_byte(size_t place, uint8_t byte);
 
+/* Puts this byte into every place, and another one into those of bank 16. */
+void fill_memory(uint8_t byte, uint8_t of_last_bank);
+
 /* Gives both sides the counts of pixels that are true of their memory, counted afresh. */
 void set_true_pixels(void);
 
@@ -67,6 +70,9 @@ void restore(const struct state *state);
 
 /* Fails unless record, memories and count are now as in this state; what says what should have held. */
 void expect_state(const char *what, const struct state *state);
+
+/* Fails unless a call gave the right number. */
+void expect_result(const char *what, uint64_t result, uint64_t right);
 
 /* Fails unless the numbers of a run are the right ones. */
 void expect_ran(const char *what, const struct ran *ran, const struct ran *right);

@@ -13,6 +13,7 @@ int main(int argc, char **argv)
     test_answers();
     test_display();
     test_counts();
+    test_counting();
     test_pixels();
     test_runs();
     test_run_counts();

@@ -1,5 +1,5 @@
-/* Counts of pixels, by number and not by the model alone: the counting start; what a display byte does to
- * counts, true or not, and where it is refused by 16; that nothing else changes them or is refused so. */
+/* Counts of pixels, by number and not by the model alone: what a display byte does to counts, true or not,
+ * and where it is refused by 16; that nothing else changes them or is refused so. */
 #include "harness.h"
 #include "records.h"
 #include "themes.h"
@@ -12,108 +12,12 @@ enum { COLUMNS = 101, LAST_BANK = 16 };
 
 static const struct bus_phase data_phases[] = { { 4, 1 }, { 5, 1 } };
 
-static void expect_result(const char *what, uint64_t result, uint64_t right)
-{
-    if (result != right)
-        fail("%s: the result is %llu, not %llu", what, (unsigned long long)result,
-             (unsigned long long)right);
-}
-
 static void expect_counts(const char *what, const uint64_t *right)
 {
     for (size_t v = 0; v < PIXEL_VALUES; v++)
         if (word_now(W_PIXELS_0 + v) != right[v])
             fail("%s: the count of value %zu is %llu, not %llu", what, v,
                  (unsigned long long)word_now(W_PIXELS_0 + v), (unsigned long long)right[v]);
-}
-
-/* ---- The counting start ------------------------------------------------------------------ */
-
-static void try_start(const char *what, const uint64_t *right)
-{
-    static struct state before;
-    uint64_t counts[PIXEL_VALUES];
-    save(&before);
-    expect_result(what, compare_counts(counts), 0);
-    if (memcmp(counts, right, sizeof counts) != 0)
-        fail("%s: %llu, %llu, %llu and %llu pixels", what, (unsigned long long)counts[0],
-             (unsigned long long)counts[1], (unsigned long long)counts[2],
-             (unsigned long long)counts[3]);
-    expect_state("a counting start changes nothing", &before);
-}
-
-static void try_present_memory(const char *what)
-{
-    static struct state now;
-    save(&now);
-    set_pixels(now.record, now.memory);
-    try_start(what, now.record + W_PIXELS_0);
-}
-
-/* The bytes of bank 16 are others. */
-static void fill_memory(uint8_t byte, uint8_t of_last_bank)
-{
-    for (size_t place = 0; place < PLACES; place++)
-        set_byte(place, place < COLUMNS * LAST_BANK ? byte : of_last_bank);
-}
-
-static void try_known_memories(void)
-{
-    lend_usual();
-    fill_memory(0x00, 0x00);
-    try_start("zeros", (const uint64_t[]) { 6767, 0, 0, 0 });
-    fill_memory(0xFF, 0xFF);
-    try_start("every bit set", (const uint64_t[]) { 0, 0, 0, 6767 });
-    fill_memory(0x00, 0xC0);
-    try_start("bits that are no pixel", (const uint64_t[]) { 6767, 0, 0, 0 });
-    fill_memory(0x1B, 0x1B);
-    try_start("each value once in a byte", (const uint64_t[]) { 1616, 1717, 1717, 1717 });
-    fill_memory(0x55, 0xAA);
-    try_start("two values", (const uint64_t[]) { 0, 6464, 303, 0 });
-}
-
-/* One byte among zeros, in every place. */
-static void try_single_bytes(void)
-{
-    fill_memory(0x00, 0x00);
-    for (size_t place = 0; place < PLACES; place++) {
-        set_byte(place, (uint8_t)(1 + below(255)));
-        try_present_memory("one byte");
-        set_byte(place, 0x00);
-    }
-}
-
-/* Every length near the right one: what is refused sets the four numbers to 0, too. */
-static void try_length(size_t memory_len, enum where where)
-{
-    uint64_t counts[PIXEL_VALUES];
-    lend(RECORD_LEN, memory_len, PLACES, where);
-    if (memory_len == PLACES) {
-        try_present_memory("the right length");
-        return;
-    }
-    expect_result("a wrong length", compare_counts(counts), BAD_MEMORY);
-    if ((counts[0] | counts[1] | counts[2] | counts[3]) != 0)
-        fail("a refused counting start gives pixels");
-}
-
-static void try_starts(void)
-{
-    static const size_t lengths[] = { 0, 1, 4, 101, 256, 1024, 1616 };
-    try_known_memories();
-    try_single_bytes();
-    for (unsigned byte = 0; byte < 256; byte++) {
-        fill_memory((uint8_t)byte, (uint8_t)byte);
-        try_present_memory("one byte in every place");
-    }
-    for (enum where where = AT_START; where <= AT_END; where++) {
-        for (size_t i = 0; i < sizeof lengths / sizeof lengths[0]; i++)
-            try_length(lengths[i], where);
-        for (size_t length = PLACES - 20; length <= MOST_PLACES; length++)
-            try_length(length, where);
-        for (int i = 0; i < (quick ? 20 : 500); i++)
-            try_length(PLACES, where);
-    }
 }
 
 /* ---- Display bytes ----------------------------------------------------------------------- */
@@ -422,8 +326,6 @@ static void try_other_cuts(uint64_t fitting)
 
 void test_pixels(void)
 {
-    theme("counting start");
-    try_starts();
     theme("pixel counts");
     try_writings();
     for (size_t p = 0; p < PHASES; p++) {

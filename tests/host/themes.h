@@ -7,6 +7,7 @@ void test_commands(void);
 void test_answers(void);
 void test_display(void);
 void test_counts(void);
+void test_counting(void);
 void test_pixels(void);
 void test_runs(void);
 void test_run_counts(void);
