@@ -76,7 +76,8 @@ static bool is_reading(uint16_t event)
     return event >= SENSOR && event < SENSOR + 256;
 }
 
-/* Only the chip that is past its address can be written to. */
+/* Only the chip that is past its address can be written to. To the others the byte is no display byte: they
+ * take it without moving a count, so that it is right to ask all four. */
 static bool pixels_fit(const struct chip *chips, uint16_t event)
 {
     for (int c = 0; c < CHIPS; c++)
