@@ -195,8 +195,19 @@ static void clear_both(void)
     clear(&model);
 }
 
-static void compare(const char *name, const char *unit, uint64_t (*work)(struct side *), int times,
-                    void (*prepare)(void))
+static void clear_uncounted(void)
+{
+    clear(&library);
+    clear(&uncounted);
+}
+
+/* The middle ones of the rounds. */
+struct speeds {
+    double ours, theirs;
+};
+
+static struct speeds compare_with(struct side *other, const char *name, const char *unit,
+                                  uint64_t (*work)(struct side *), int times, void (*prepare)(void))
 {
     double ours[ROUNDS], theirs[ROUNDS], ratio[ROUNDS];
     for (int i = 0; i < ROUNDS; i++) {
@@ -204,27 +215,57 @@ static void compare(const char *name, const char *unit, uint64_t (*work)(struct 
         prepare();
         if (ours_first)
             ours[i] = speed(&library, work, times);
-        theirs[i] = speed(&model, work, times);
+        theirs[i] = speed(other, work, times);
         if (!ours_first)
             ours[i] = speed(&library, work, times);
-        must_agree(name);
+        must_agree(other, name);
         ratio[i] = ours[i] / theirs[i];
     }
     double middle = median(ratio);
+    struct speeds speeds = { median(ours), median(theirs) };
     printf("%-26s %6.2f %6.2f %6.2f   %7.1f %7.1f  M %s/s\n", name, ratio[0], middle,
-           ratio[ROUNDS - 1], 1e-6 * median(ours), 1e-6 * median(theirs), unit);
+           ratio[ROUNDS - 1], 1e-6 * speeds.ours, 1e-6 * speeds.theirs, unit);
     fflush(stdout);
+    return speeds;
 }
 
-/* The streams of banks are almost all display bytes, and both sides mend the counts of pixels at each: what
- * mending costs the library is in these lines, and in those of the model as well. */
+static struct speeds compare(const char *name, const char *unit, uint64_t (*work)(struct side *), int times,
+                             void (*prepare)(void))
+{
+    return compare_with(&model, name, unit, work, times, prepare);
+}
+
+/* What a display byte takes, in nanoseconds. */
+struct costs {
+    double library, model, uncounted;
+};
+
+/* Of the stream of whole banks, with the byte's share of what else is in its message. */
+static double of_a_display_byte(double speed)
+{
+    return 1e9 / speed * (double)stream.length / (double)(COLUMNS * stream.messages);
+}
+
+/* Whole banks are almost all display bytes. The library and the model mend the counts of pixels at each, so
+ * that their ratio does not show what that costs; in the line without counts the model never mends them. */
+static struct costs compare_banks(void)
+{
+    banks_stream(&stream);
+    compare("step, whole banks", "events", step_all, 4, clear_both);
+    struct speeds kept = compare("run, whole banks", "events", run_all, 16, clear_both);
+    struct speeds not_kept = compare_with(&uncounted, "run, banks, no counts kept", "events", run_all, 16,
+                                          clear_uncounted);
+    compare("run, a bank a call", "events", run_messages, 16, clear_both);
+    return (struct costs) { of_a_display_byte(kept.ours), of_a_display_byte(kept.theirs),
+                            of_a_display_byte(not_kept.theirs) };
+}
+
 static void compare_chip(void)
 {
     static const struct {
         const char *step, *run, *messages;
         void (*fill)(struct stream *);
     } streams[] = {
-        { "step, whole banks", "run, whole banks", "run, a bank a call", banks_stream },
         { "step, banks, DO 1", "run, banks, DO 1", "run, DO 1, a bank a call", swapped_stream },
         { "step, single cells", "run, single cells", "run, a cell a call", cells_stream },
         { "step, commands", "run, commands", "run, a command a call", commands_stream },
@@ -281,6 +322,7 @@ int main(void)
 {
     printf("library speed / model speed, %d rounds; buffers cleared before each\n", ROUNDS);
     printf("%-26s %6s %6s %6s   %7s %7s\n", "", "least", "median", "most", "library", "model");
+    struct costs costs = compare_banks();
     compare_chip();
     compare_bus();
     compare_counts();
@@ -288,5 +330,7 @@ int main(void)
     compare("pulses, every row", "pixels", pulse_rows, 40, light_up);
     compare_compilers();
     compare_wires();
+    printf("a display byte of a whole bank takes the library %.1f ns, the model %.1f ns, and the model %.1f ns "
+           "without mending the counts of pixels\n", costs.library, costs.model, costs.uncounted);
     return 0;
 }

@@ -8,6 +8,7 @@
 #include "pixels.h"
 #include "pulses.h"
 #include "records.h"
+#include "uncounted.h"
 #include "wires.h"
 
 #include <stdio.h>
@@ -51,8 +52,11 @@ static const struct calls model_calls = {
     .wires = model_wires,
 };
 
-struct side library = { .calls = &library_calls };
-struct side model = { .calls = &model_calls };
+static const struct calls uncounted_calls = { .run = uncounted_run };
+
+struct side library = { .calls = &library_calls, .words = WORDS };
+struct side model = { .calls = &model_calls, .words = WORDS };
+struct side uncounted = { .calls = &uncounted_calls, .words = PCF8820_WORD_PIXELS_0 };
 
 void clear(struct side *side)
 {
@@ -87,17 +91,17 @@ void light_up(void)
     memcpy(model.memory, library.memory, sizeof model.memory);
 }
 
-void must_agree(const char *name)
+void must_agree(const struct side *other, const char *name)
 {
-    if (library.sum == model.sum
-        && memcmp(library.record, model.record, sizeof model.record) == 0
-        && memcmp(library.memory, model.memory, sizeof model.memory) == 0
-        && memcmp(library.writers, model.writers, sizeof model.writers) == 0
-        && memcmp(library.on_bus, model.on_bus, sizeof model.on_bus) == 0
-        && library.count == model.count
-        && memcmp(library.row, model.row, sizeof model.row) == 0
-        && memcmp(library.wires, model.wires, sizeof model.wires) == 0
-        && memcmp(library.out, model.out, sizeof model.out) == 0)
+    if (library.sum == other->sum
+        && memcmp(library.record, other->record, other->words * sizeof *other->record) == 0
+        && memcmp(library.memory, other->memory, sizeof other->memory) == 0
+        && memcmp(library.writers, other->writers, sizeof other->writers) == 0
+        && memcmp(library.on_bus, other->on_bus, sizeof other->on_bus) == 0
+        && library.count == other->count
+        && memcmp(library.row, other->row, sizeof other->row) == 0
+        && memcmp(library.wires, other->wires, sizeof other->wires) == 0
+        && memcmp(library.out, other->out, sizeof other->out) == 0)
         return;
     fprintf(stderr, "bench: %s: the library and the model do not give the same\n", name);
     exit(1);

@@ -1,4 +1,5 @@
-/* The two sides that are compared: the calls of include/pcf8820.h and the model's. */
+/* The sides that are compared: the calls of include/pcf8820.h, the model's, and the run of the model
+ * without its counts of pixels. */
 #ifndef SIDES_H
 #define SIDES_H
 
@@ -36,6 +37,7 @@ struct chip {
 /* What a side works on, one chip, four on a bus or the wires, and a sum over all that it gave back. */
 struct side {
     const struct calls *calls;
+    size_t words; /* the first ones of the record, which must be the library's */
     uint64_t record[WORDS];
     uint8_t memory[PLACES];
     uint64_t writers[PLACES];
@@ -47,7 +49,7 @@ struct side {
     uint64_t sum;
 };
 
-extern struct side library, model;
+extern struct side library, model, uncounted;
 
 /* The reset record, on the bus with the pins 0 to 3; the wires before the first sample; memories, the
  * count and the outputs 0. */
@@ -56,7 +58,7 @@ void clear(struct side *side);
 /* A record that shows levels, and a random memory with its counts of pixels, the same on both sides. */
 void light_up(void);
 
-/* Ends the program if the two sides do not stand alike. */
-void must_agree(const char *name);
+/* Ends the program if the library and the other side do not stand alike. */
+void must_agree(const struct side *other, const char *name);
 
 #endif
