@@ -15,17 +15,22 @@ use Rattle.registers.specs.State.{places}
 use Rattle.registers.proofs.Below.{true-false}
 use Rattle.registers.proofs.Within.{both-left, both-right, count-bound}
 use Rattle.glass.specs.Pixel.{valueIn}
-use Rattle.pixel_counts.specs.Counts.{ofValue, inRow, inRows, countOf, countsOf, counted, countingStart}
+use Rattle.pixel_counts.specs.Counts.{ofValue, inRow, inRows, inGlassRows, countOf, countsOf, counted, countingStart}
 use Rattle.pixel_counts.specs.Mending.{shown, fits, moved, mendable, mended, StaysIn, GoesOut}
 use Rattle.pixel_counts.proofs.Pixels.{three-shown}
 use Rattle.pixel_counts.proofs.Places.{set-moves}
 use Rattle.pixel_counts.proofs.Sums as Sums
+use Rattle.pixel_counts.proofs.Turned as Turned
 
 -- ---- true counts
 
 -- they add up to all pixels
 pub counts-add : (m : List ℕ) → countOf 0 m + countOf 1 m + countOf 2 m + countOf 3 m ≡ pixels
 counts-add = Sums.counts-add
+
+-- and are the same over the rows of the glass, whatever MY is
+pub glass-rows : (my v : ℕ) (m : List ℕ) → inGlassRows my v m 67 ≡ countOf v m
+glass-rows my v m = Turned.glass-rows v m my
 
 four-allowed : (n : PixelCounts) → ((v : ℕ) → v < 4 → countFor n v ≤ pixels) → allowedCounts n ≡ true
 four-allowed n h =

@@ -9,7 +9,7 @@ use Rattle.registers.specs.declared.PixelCounts.{PixelCounts}
 use Rattle.registers.specs.Record.{byValue}
 use Rattle.registers.specs.Refusals.{lengthRefusal}
 use Rattle.registers.specs.State.{State}
-use Rattle.glass.specs.Pixel.{placeAt, valueIn}
+use Rattle.glass.specs.Pixel.{ramRow, placeAt, valueIn}
 use Rattle.pixel_counts.specs.declared.Counted.{Counted}
 
 -- the value of the pixel in this row and column of the memory
@@ -31,6 +31,11 @@ inRows v m (suc n) = inRow v m n 101 + inRows v m n
 
 unfoldable pub countOf : ℕ → List ℕ → ℕ
 countOf v m = inRows v m 67
+
+-- the same over the rows of the glass, which MY = 1 turns over: `glass-rows` says that this is no other count
+unfoldable pub inGlassRows : ℕ → ℕ → List ℕ → ℕ → ℕ
+inGlassRows my v m zero = 0
+inGlassRows my v m (suc n) = inRow v m (ramRow my n) 101 + inGlassRows my v m n
 
 -- of all four values: the true counts of a display memory
 unfoldable pub countsOf : List ℕ → PixelCounts
