@@ -6,18 +6,14 @@ ghost use Rattle.pixel_counts.specs.Mending.{shown};
 ghost use Rattle.pixel_counts.specs.Packed.{packedAt};
 use registers::PixelCounts;
 
-// What a pixel adds to a packed sum: four bits for each value.
+// What a pixel adds to a packed sum: four bits for each value. A shift, since a choice among four numbers may be compiled into a jump, which no processor
+// foresees for the bytes of a picture.
 fn one(value: u8) -> u16
     requires { ⌜ value < 4 ⌝ }
     ensures { λ r. ⌜ r ≡ 16 ^ value ⌝ }
     ensures { λ r. ⌜ r ≤ 4096 ⌝ }
 {
-    match value {
-        0 => 1,
-        1 => 16,
-        2 => 256,
-        _ => 4096,
-    }
+    1u16 << (4 * value)
 }
 
 // Four rows to a bank, and three to bank 16, which begins at place 1,616.
