@@ -96,7 +96,7 @@ course p (q ∷ ps) f n s fit = go (numberOf p) refl (λ k t h. course q ps (f .
         → ((k : ℕ) (t : State) → Fit t → Course k t (join newline (q ∷ ps)) (playFrom k (eventsOf (q ∷ ps)) t))
         → Course n s (p ++ newline ∷ join newline (q ∷ ps)) (playFrom n (withEvent v (eventsOf (q ∷ ps))) s)
     go Malformed e rest = stops-here n s _ _ fit (no-number p (join newline (q ∷ ps)) (f .0) e refl) (none-left n false s fit)
-    go (Value v) e rest = event v (printed p v e) (refusalOf v s) refl (λ h. rest (n + 1) (stepOf v s .state) (stays-fit v s h fit))
+    go (Value v) e rest = event v (printed p v e) (refusalOf v s) refl (λ h. rest (n + 1) (stepOf v s .state) (stays-fit v s fit))
 
 body-course : (body : List ℕ) (s : State) → Fit s → Course 0 s body (playFrom 0 (eventsOf (split newline body)) s)
 body-course body s fit = go (split newline body) (split-some newline body) (split-free newline body) (join-split newline body)

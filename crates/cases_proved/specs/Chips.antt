@@ -258,6 +258,11 @@ refusalsAndRuns =
     -- 1 and 2 not tested where there are no events
     ∷ runRefusal (lent 1717 1716 (upon [])) [] gives 1 not 0
     ∷ runRefusal (upon (X is 101 ∷ [])) [] gives 2 not 0
+    -- not tested at entry where there are some, and an event looked at before them
+    ∷ runRefusal (lent 1716 1717 (upon [])) (START ∷ []) gives 1 not 0
+    ∷ runRefusal (upon (X is 101 ∷ [])) (START ∷ []) gives 2 not 0
+    ∷ runLeaves (upon (X is 101 ∷ [])) (START ∷ []) count gives 0 not 1
+    ∷ runRefusal (upon (X is 101 ∷ [])) (261 ∷ []) gives 2 not 3
     -- 4 at the wrong event
     ∷ runDone (counting (2 ^ 64 - 2) (upon [])) (START ∷ STOP ∷ []) gives 1 not 0
     ∷ runRefusal (counting (2 ^ 64 - 2) (upon [])) (START ∷ STOP ∷ []) gives 4 not 0

@@ -27,13 +27,15 @@ use Rattle.engine.proofs.Allowed.{accepted-fit}
 use Rattle.engine.proofs.Events.{sensor-event}
 use Rattle.engine.proofs.Pixels.{accepted-true, accepted-kept}
 use Rattle.engine.proofs.Tallies.{tally-refused}
-use Rattle.engine.proofs.Refusals.{entry-fit, accepts}
+use Rattle.engine.proofs.PastEntry as PastEntry
+use Rattle.engine.proofs.Refusals.{entry-fit, fit-entry, accepts}
 use Rattle.chip.specs.Effects.{displayed}
 use Rattle.chip.specs.LastWriter.{before, PlaceAfter, LastWriter}
 use Rattle.chip.specs.Phases.{awaitsData, awaitsCommand, ignoresBytes, phaseAfterIgnored}
 use Rattle.chip.specs.Promised.{CommandAnswer, Taken, Refused, Nothing, Acknowledged, NotAcknowledged, Command, Read, After, nothingStored, Fit, entryRefusal, refusalOf, isAddressed}
 use Rattle.chip.specs.Promised.{acknowledge, phaseAfterAddress, controlled, phaseAfterLastRead, pulsed, sensed, commandOf, answerTo, CommandWhen, countUnless, tally}
 use Rattle.chip.specs.Promised.{storedOf, placeOf, shown, TrueCounts}
+use Rattle.chip.specs.Promised.{stepPastEntry, runPastEntry, tallyPastEntry}
 use Rattle.chip.specs.Runs.{continued, StepByStep, tallyOver}
 use Rattle.chip.specs.When.{ComesAsData, When, none, not-long, not-allowed, not-listed, count-full, goes-out}
 use Rattle.chip.proofs.Events.{by-phase, in-known-phase, command-at, display-step, ignored-at, answered-command, same-command}
@@ -66,9 +68,13 @@ pub refused : (e : ℕ) (s : State) (k : ℕ) → refusalOf e s ≡ suc k → st
 unfolding stepOf
 refused e s k h = rw h
 
--- what 1 and 2 let pass stays so: an allowed record stays allowed after any accepted event
-pub stays-fit : (e : ℕ) (s : State) → refusalOf e s ≡ 0 → Fit s → Fit (stepOf e s .state)
-stays-fit e s h fit = rw (accepted-step e s h) (accepted-fit e s fit)
+-- what 1 and 2 let pass stays so: an allowed record stays allowed after any event, and the memories keep their length
+pub stays-fit : (e : ℕ) (s : State) → Fit s → Fit (stepOf e s .state)
+stays-fit e s fit = go (refusalOf e s) refl
+  where
+    go : (k : ℕ) → refusalOf e s ≡ k → Fit (stepOf e s .state)
+    go zero h = rw (accepted-step e s h) (accepted-fit e s fit)
+    go (suc k) h = rw (refused e s k h) fit
 
 -- ---- events that are not refused, one law each
 
@@ -272,6 +278,22 @@ run-tallies-append a xs ys s = go (entryRefusal s) refl
     go (suc k) q =
         let none : (es : List ℕ) → 0 ≡ tally a es s = λ es. tally-refused a es s (suc k) (sym q) (suc-ne-zero k) in
         omega (arith, none (xs ++ ys), none xs)
+
+-- 1 and 2 are tested at entry, and need not be tested again: from there on 3, 4 and 16 alone refuse an event, and the run is the same for every input,
+-- also with no events and with a record that is not allowed (document 02, W9)
+pub tested-at-entry : (es : List ℕ) (s : State) → runOf es s ≡ unlessStopped (entryRefusal s) 0 s (runPastEntry 0 es s)
+tested-at-entry es s = PastEntry.tested-at-entry es s
+
+pub tallied-from-entry : (a : CommandAnswer) (es : List ℕ) (s : State) → tally a es s ≡ countUnless (entryRefusal s) (tallyPastEntry a es s)
+tallied-from-entry a es s = PastEntry.tallied-from-entry es s a
+
+-- whoever has tested them can go on past the entry
+pub step-past-entry : (e : ℕ) (s : State) → Fit s → stepPastEntry e s ≡ stepOf e s
+step-past-entry e s fit = PastEntry.same-step e s fit
+
+pub run-past-entry : (es : List ℕ) (s : State) → Fit s → runPastEntry 0 es s ≡ runOf es s
+run-past-entry es s fit =
+    sym (tested-at-entry es s ∙ ap (λ (k : ℕ). unlessStopped k 0 s (runPastEntry 0 es s)) (fit-entry s fit))
 
 -- an allowed record stays allowed over a run, and the memories keep their length
 pub run-stays-fit : (es : List ℕ) (s : State) → Fit s → Fit (runOf es s .state)

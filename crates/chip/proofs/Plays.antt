@@ -83,7 +83,7 @@ module _ (r : Registers) (m : List ℕ) (pins n : ℕ) (s : State) (v : Visible 
           registers = ap (λ (x : After). x .state .chip .registers) step ∙ er;
           memory = ap (λ (x : After). x .state .memory) step ∙ em;
           pins-are = ap (λ (x : After). x .state .chip .pins) step ∙ epins;
-          fit = stays-fit e s h (v .fit);
+          fit = stays-fit e s (v .fit);
           true-counts = stays-true e s (v .true-counts);
           room = omega (arith, v .room, count-law e s h);
         };

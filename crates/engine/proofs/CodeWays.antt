@@ -17,6 +17,7 @@ use Rattle.registers.specs.Record.{phaseRs, inPhase, withRegisters, withPixels}
 use Rattle.registers.specs.Refusals.{refuse, _then_}
 use Rattle.registers.specs.State.{State, state}
 use Rattle.commands.specs.declared.answer.CommandAnswer.{CommandAnswer}
+use Rattle.commands.specs.declared.answer.CommandAnswer.the-variants.{Unknown, OutOfRange}
 use Rattle.commands.specs.Command.{commandOf, answerTo}
 use Rattle.display.specs.Display.{storedOf, placeOf, nextAddress, pixelsFit}
 use Rattle.phases.specs.Phases.{awaitsContent, phaseAfterContent}
@@ -24,11 +25,14 @@ use Rattle.engine.specs.declared.answer.Answer.{Answer}
 use Rattle.engine.specs.declared.answer.Answer.the-variants.{Refused, Nothing, Acknowledged, Command}
 use Rattle.engine.specs.declared.event.Event.{Event}
 use Rattle.engine.specs.Event.{eventOf, isByte, countsAs}
-use Rattle.engine.specs.Run.{Outcome, outcome, runFrom, runOf, unlessStopped, countUnless, tally, answerUnless, answerFrom, lastAnswer}
+use Rattle.engine.specs.PastEntry.{refusalPastEntry, stepPastEntry, runPastEntry, tallyPastEntry, answerPastEntry}
+use Rattle.engine.specs.Run.{Outcome, outcome, runFrom, runOf, unlessStopped, countUnless, tally, answerUnless, lastAnswer}
 use Rattle.engine.specs.Step.{isDisplayByte, pixelsUpon, After, after, unmended, nothingStored, contentOf, onByte, applied, accepted}
-use Rattle.engine.specs.Step.{entryFor, entryRefusal, eventRefusal, pixelRefusal, refusalOf, unlessRefused, stepOf}
+use Rattle.engine.specs.Step.{Fit, entryRefusal, eventRefusal, pixelRefusal, refusalOf, unlessRefused, stepOf}
 use Rattle.engine.proofs.Events.{byte-event, other-event}
+use Rattle.engine.proofs.PastEntry.{tested-at-entry, tallied-from-entry}
 use Rattle.engine.proofs.Pixels.{pixels-upon}
+use Rattle.engine.proofs.Refusals.{entry-fit}
 use Rattle.engine.proofs.Tallies.{counted-once}
 
 -- ---- a byte
@@ -125,12 +129,12 @@ fit-number false = refl
 -- 16 or none, by whether the counts stay in their range
 pub refusal-told :
     (e : ℕ) (s : State) (r : ℕ) (fit : Bool) → fit ≡ eqb (pixelRefusal e (s .chip) (s .memory)) 0
-    → r ≡ entryFor (s .chip) (length (s .memory)) (length (s .writers)) then eventRefusal e (s .count) then refuse (not fit) 16
-    → r ≡ refusalOf e s
-unfolding refusalOf entryRefusal pixelRefusal
+    → r ≡ eventRefusal e (s .count) then refuse (not fit) 16
+    → r ≡ refusalPastEntry e s
+unfolding refusalPastEntry pixelRefusal
 refusal-told e s r fit ef told =
     told
-    ∙ ap (λ (k : ℕ). entryFor (s .chip) (length (s .memory)) (length (s .writers)) then eventRefusal e (s .count) then k)
+    ∙ ap (λ (k : ℕ). eventRefusal e (s .count) then k)
     (rw ef (go (isDisplayByte e (s .chip .phase) && not (pixelsFit (s .chip .registers) (s .chip .pixels) (s .memory) e))))
   where
     go : (t : Bool) → refuse (not (eqb (refuse t 16) 0)) 16 ≡ refuse t 16
@@ -146,7 +150,7 @@ whole-event e s a c c′ n m w k h en ec =
     ap (λ (x : Chip). after a x m w k) (ec ∙ ap (withPixels c) (en ∙ sym (pixels-upon e s)))
     ∙ ap (λ (x : After). unmended (accepted e s .state .chip .pixels) x) h
 
--- ---- a run
+-- ---- a run past its entry
 
 drop-next : (es : List ℕ) (n : ℕ) → n < length es → drop n es ≡ getD es n 0 ∷ drop (n + 1) es
 drop-next es n h = rw (add-one, drop-cons es n 0)
@@ -154,100 +158,106 @@ drop-next es n h = rw (add-one, drop-cons es n 0)
 -- n events are done, which left s, and k of them were answered by b: no more than there were, and with those that are left that is the total
 pub record Tallied (b : CommandAnswer) (total : ℕ) (es : List ℕ) (n : ℕ) (s : State) (k : ℕ) : Type 0 where
   pub at-most : k ≤ n
-  pub in-all : k + tally b (drop n es) s ≡ total
+  pub in-all : k + tallyPastEntry b (drop n es) s ≡ total
 
 -- the event at place n, the state before it, and what it does
 module _ (es : List ℕ) (n : ℕ) (h : n < length es) (s : State) where
   here :
-      runFrom n (drop n es) s
-      ≡ unlessStopped (refusalOf (getD es n 0) s) n s (runFrom (n + 1) (drop (n + 1) es) (accepted (getD es n 0) s .state))
-  unfolding runFrom
-  here = ap (λ (l : List ℕ). runFrom n l s) (drop-next es n h)
+      runPastEntry n (drop n es) s
+      ≡ unlessStopped (refusalPastEntry (getD es n 0) s) n s (runPastEntry (n + 1) (drop (n + 1) es) (accepted (getD es n 0) s .state))
+  unfolding runPastEntry
+  here = ap (λ (l : List ℕ). runPastEntry n l s) (drop-next es n h)
 
-  pub run-stops : (x : ℕ) → x ≡ refusalOf (getD es n 0) s → (x ≡ 0 → ⊥) → runFrom n (drop n es) s ≡ outcome n x s
+  pub run-stops : (x : ℕ) → x ≡ refusalPastEntry (getD es n 0) s → (x ≡ 0 → ⊥) → runPastEntry n (drop n es) s ≡ outcome n x s
   run-stops zero e z = absurd (z refl)
   run-stops (suc k) e z = here ∙ rw (← e)
 
   pub run-goes-on :
-      (x : ℕ) (a : After) → x ≡ refusalOf (getD es n 0) s → x ≡ 0 → a ≡ accepted (getD es n 0) s
-      → runFrom n (drop n es) s ≡ runFrom (n + 1) (drop (n + 1) es) (a .state)
+      (x : ℕ) (a : After) → x ≡ refusalPastEntry (getD es n 0) s → x ≡ 0 → a ≡ accepted (getD es n 0) s
+      → runPastEntry n (drop n es) s ≡ runPastEntry (n + 1) (drop (n + 1) es) (a .state)
   run-goes-on x a e z ea = here ∙ rw (sym e ∙ z, ea)
 
   answer-here :
-      (a : Answer) → answerFrom (drop n es) s a
-      ≡ answerUnless (refusalOf (getD es n 0) s) (answerFrom (drop (n + 1) es) (accepted (getD es n 0) s .state) (accepted (getD es n 0) s .answer))
-  answer-here a = ap (λ (l : List ℕ). answerFrom l s a) (drop-next es n h)
+      (a : Answer) → answerPastEntry (drop n es) s a
+      ≡ answerUnless (refusalPastEntry (getD es n 0) s) (answerPastEntry (drop (n + 1) es) (accepted (getD es n 0) s .state) (accepted (getD es n 0) s .answer))
+  answer-here a = ap (λ (l : List ℕ). answerPastEntry l s a) (drop-next es n h)
 
-  pub answer-stops : (x : ℕ) (a : Answer) → x ≡ refusalOf (getD es n 0) s → (x ≡ 0 → ⊥) → answerFrom (drop n es) s a ≡ Refused x
+  pub answer-stops : (x : ℕ) (a : Answer) → x ≡ refusalPastEntry (getD es n 0) s → (x ≡ 0 → ⊥) → answerPastEntry (drop n es) s a ≡ Refused x
   answer-stops zero a e z = absurd (z refl)
   answer-stops (suc k) a e z = answer-here a ∙ rw (← e)
 
   pub answer-goes-on :
-      (x : ℕ) (a : Answer) (b : After) → x ≡ refusalOf (getD es n 0) s → x ≡ 0 → b ≡ accepted (getD es n 0) s
-      → answerFrom (drop n es) s a ≡ answerFrom (drop (n + 1) es) (b .state) (b .answer)
+      (x : ℕ) (a : Answer) (b : After) → x ≡ refusalPastEntry (getD es n 0) s → x ≡ 0 → b ≡ accepted (getD es n 0) s
+      → answerPastEntry (drop n es) s a ≡ answerPastEntry (drop (n + 1) es) (b .state) (b .answer)
   answer-goes-on x a b e z eb = answer-here a ∙ rw (sym e ∙ z, eb)
 
   module _ (b : CommandAnswer) (total k : ℕ) (so-far : Tallied b total es n s k) where
     tally-here :
-        tally b (drop n es) s
-        ≡ countUnless (refusalOf (getD es n 0) s) (countsAs b (accepted (getD es n 0) s .answer) + tally b (drop (n + 1) es) (accepted (getD es n 0) s .state))
-    unfolding tally
-    tally-here = ap (λ (l : List ℕ). tally b l s) (drop-next es n h)
+        tallyPastEntry b (drop n es) s
+        ≡ countUnless (refusalPastEntry (getD es n 0) s) (countsAs b (accepted (getD es n 0) s .answer) + tallyPastEntry b (drop (n + 1) es) (accepted (getD es n 0) s .state))
+    unfolding tallyPastEntry
+    tally-here = ap (λ (l : List ℕ). tallyPastEntry b l s) (drop-next es n h)
 
-    pub tally-stops : (x : ℕ) → x ≡ refusalOf (getD es n 0) s → (x ≡ 0 → ⊥) → k ≡ total
+    pub tally-stops : (x : ℕ) → x ≡ refusalPastEntry (getD es n 0) s → (x ≡ 0 → ⊥) → k ≡ total
     tally-stops zero e z = absurd (z refl)
     tally-stops (suc y) e z =
-        let rest : tally b (drop n es) s ≡ 0 = tally-here ∙ rw (← e) in
+        let rest : tallyPastEntry b (drop n es) s ≡ 0 = tally-here ∙ rw (← e) in
         omega (arith, so-far .in-all, rest)
 
     pub tally-goes-on :
-        (x : ℕ) (a : After) (u : ℕ) → x ≡ refusalOf (getD es n 0) s → x ≡ 0 → a ≡ accepted (getD es n 0) s
+        (x : ℕ) (a : After) (u : ℕ) → x ≡ refusalPastEntry (getD es n 0) s → x ≡ 0 → a ≡ accepted (getD es n 0) s
         → u ≡ countsAs b (a .answer) → Tallied b total es (n + 1) (a .state) (k + u)
     tally-goes-on x a u e z ea eu =
-        let rest : tally b (drop n es) s ≡ u + tally b (drop (n + 1) es) (a .state) = tally-here ∙ rw (sym e ∙ z, eu, ea) in
+        let rest : tallyPastEntry b (drop n es) s ≡ u + tallyPastEntry b (drop (n + 1) es) (a .state) = tally-here ∙ rw (sym e ∙ z, eu, ea) in
         record { at-most = omega (arith, so-far .at-most, counted-once b u (a .answer) eu); in-all = omega (arith, so-far .in-all, rest) }
 
-pub run-ends : (es : List ℕ) (n : ℕ) (s : State) → n ≡ length es → runFrom n (drop n es) s ≡ outcome n 0 s
-unfolding runFrom
+pub run-ends : (es : List ℕ) (n : ℕ) (s : State) → n ≡ length es → runPastEntry n (drop n es) s ≡ outcome n 0 s
+unfolding runPastEntry
 run-ends es n s e = rw (e, drop-length)
 
-pub run-refused : (es : List ℕ) (s : State) (x : ℕ) → x ≡ entryRefusal s → (x ≡ 0 → ⊥) → outcome 0 x s ≡ runOf es s
-unfolding runOf
-run-refused es s zero e n = absurd (n refl)
-run-refused es s (suc k) e n = rw (← e)
-
-pub run-entered : (es : List ℕ) (s : State) (x : ℕ) (o : Outcome) → x ≡ entryRefusal s → x ≡ 0 → o ≡ runFrom 0 es s → o ≡ runOf es s
-unfolding runOf
-run-entered es s x o e z h = rw (sym e ∙ z) h
-
 module _ (b : CommandAnswer) where
-  pub tally-begins : (es : List ℕ) (s : State) → Tallied b (tally b es s) es 0 s 0
+  pub tally-begins : (es : List ℕ) (s : State) → Tallied b (tallyPastEntry b es s) es 0 s 0
   tally-begins es s = record { at-most = zero-le; in-all = omega arith }
 
   pub tally-ends : (total k : ℕ) (es : List ℕ) (n : ℕ) (s : State) → Tallied b total es n s k → n ≡ length es → k ≡ total
-  unfolding tally
+  unfolding tallyPastEntry
   tally-ends total k es n s so-far e =
-      let rest : tally b (drop n es) s ≡ 0 = rw (e, drop-length) in
+      let rest : tallyPastEntry b (drop n es) s ≡ 0 = rw (e, drop-length) in
       omega (arith, so-far .in-all, rest)
 
-pub answer-ends : (es : List ℕ) (n : ℕ) (s : State) (a : Answer) → n ≡ length es → answerFrom (drop n es) s a ≡ a
+pub answer-ends : (es : List ℕ) (n : ℕ) (s : State) (a : Answer) → n ≡ length es → answerPastEntry (drop n es) s a ≡ a
 answer-ends es n s a e = rw (e, drop-length)
 
-pub answer-refused : (es : List ℕ) (s : State) (x : ℕ) → x ≡ entryRefusal s → (x ≡ 0 → ⊥) → Refused x ≡ lastAnswer es s
-unfolding lastAnswer
-answer-refused es s zero e n = absurd (n refl)
-answer-refused es s (suc k) e n = rw (← e)
+-- ---- the entry of a run
 
-pub answer-entered : (es : List ℕ) (s : State) (x : ℕ) (a : Answer) → x ≡ entryRefusal s → x ≡ 0 → a ≡ answerFrom es s Nothing → a ≡ lastAnswer es s
-unfolding lastAnswer
-answer-entered es s x a e z h = rw (sym e ∙ z) h
+-- y is what the code found, x what the definition says: nothing is done, or the events pass
+pub entry-stops :
+    (x y : ℕ) (s : State) (o : Outcome) (u r : ℕ) (a : Answer) → y ≡ x → (y ≡ 0 → ⊥)
+    → (outcome 0 y s ≡ unlessStopped x 0 s o) × ((0 ≡ countUnless x u) × ((0 ≡ countUnless x r) × (Refused y ≡ answerUnless x a)))
+entry-stops zero y s o u r a e n = absurd (n e)
+entry-stops (suc x) y s o u r a e n = (ap (λ (k : ℕ). outcome 0 k s) e, (refl, (refl, ap Refused e)))
 
--- a run over one event is a step: the entry refuses first, then the event
+pub entry-passes :
+    (x y : ℕ) (s : State) (o o′ : Outcome) (u u′ r r′ : ℕ) (a a′ : Answer) → y ≡ x → y ≡ 0 → o ≡ o′ → u ≡ u′ → r ≡ r′ → a ≡ a′
+    → (o ≡ unlessStopped x 0 s o′) × ((u ≡ countUnless x u′) × ((r ≡ countUnless x r′) × (a ≡ answerUnless x a′)))
+entry-passes x y s o o′ u u′ r r′ a a′ e z eo eu er ea = rw (sym e ∙ z) (eo, (eu, (er, ea)))
+
+-- what comes of both is the run
+pub from-entry :
+    (es : List ℕ) (s : State) (o : Outcome) (u r : ℕ) → o ≡ unlessStopped (entryRefusal s) 0 s (runPastEntry 0 es s)
+    → u ≡ countUnless (entryRefusal s) (tallyPastEntry Unknown es s) → r ≡ countUnless (entryRefusal s) (tallyPastEntry OutOfRange es s)
+    → (o ≡ runOf es s) × ((u ≡ tally Unknown es s) × (r ≡ tally OutOfRange es s))
+from-entry es s o u r eo eu er =
+    (eo ∙ sym (tested-at-entry es s), (eu ∙ sym (tallied-from-entry es s Unknown), er ∙ sym (tallied-from-entry es s OutOfRange)))
+
+-- ---- a run over one event
+
+-- it is a step: the entry refuses first, then the event
 one-event :
     (entry later : ℕ) (a : After) (s : State)
     → record {
-      answer = answerUnless entry (answerUnless (entry then later) (a .answer));
-      state = unlessStopped entry 0 s (unlessStopped (entry then later) 0 s (outcome 1 0 (a .state))) .state;
+      answer = answerUnless entry (answerUnless later (a .answer));
+      state = unlessStopped entry 0 s (unlessStopped later 0 s (outcome 1 0 (a .state))) .state;
     }
     ≡ unlessRefused (entry then later) a s
 one-event zero zero a s = refl
@@ -255,8 +265,16 @@ one-event zero (suc k) a s = refl
 one-event (suc k) later a s = refl
 
 pub step-of-run :
-    (e : ℕ) (s s′ : State) (n k : ℕ) (a : Answer) → outcome n k s′ ≡ runOf (e ∷ []) s → a ≡ lastAnswer (e ∷ []) s
-    → record { answer = a; state = s′ } ≡ stepOf e s
-unfolding runOf runFrom lastAnswer stepOf refusalOf
+    (e : ℕ) (s s′ : State) (n k : ℕ) (a : Answer) → outcome n k s′ ≡ unlessStopped (entryRefusal s) 0 s (runPastEntry 0 (e ∷ []) s)
+    → a ≡ answerUnless (entryRefusal s) (answerPastEntry (e ∷ []) s Nothing) → record { answer = a; state = s′ } ≡ stepOf e s
+unfolding runPastEntry refusalPastEntry stepOf refusalOf
 step-of-run e s s′ n k a eo ea =
-    rw (ea, ap (λ (o : Outcome). o .state) eo) (one-event (entryRefusal s) (eventRefusal e (s .count) then pixelRefusal e (s .chip) (s .memory)) (accepted e s) s)
+    rw (ea, ap (λ (o : Outcome). o .state) eo) (one-event (entryRefusal s) (refusalPastEntry e s) (accepted e s) s)
+
+-- past the entry too
+pub step-past-entry :
+    (e : ℕ) (s s′ : State) (n k : ℕ) (a : Answer) → outcome n k s′ ≡ runPastEntry 0 (e ∷ []) s → a ≡ answerPastEntry (e ∷ []) s Nothing
+    → record { answer = a; state = s′ } ≡ stepPastEntry e s
+unfolding runPastEntry stepPastEntry
+step-past-entry e s s′ n k a eo ea =
+    rw (ea, ap (λ (o : Outcome). o .state) eo) (one-event 0 (refusalPastEntry e s) (accepted e s) s)

@@ -4,4 +4,5 @@ pub mod Numbers
 pub mod Pixels
 pub mod Refusals
 pub mod Tallies
+pub mod PastEntry
 pub mod CodeWays

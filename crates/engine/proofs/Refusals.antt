@@ -8,6 +8,7 @@ use lib.ListN.{length}
 use Rattle.registers.specs.Refusals.{refuse, _then_, recordRefusal, isListedEvent}
 use Rattle.registers.specs.State.{State, places}
 use Rattle.registers.proofs.Refusals.{then-zero, refuse-none, or-none}
+use Rattle.engine.specs.PastEntry.{refusalPastEntry}
 use Rattle.engine.specs.Step.{entryRefusal, eventRefusal, pixelRefusal, refusalOf, Fit}
 
 -- what none of the refusals leaves
@@ -34,15 +35,25 @@ pub fit-entry : (s : State) → Fit s → entryRefusal s ≡ 0
 unfolding entryRefusal
 fit-entry s fit = simp (eq-eqb _ _ (fit .memory-long), eq-eqb _ _ (fit .writers-long), fit .is-allowed)
 
+-- an event that is not refused past the entry
+record Onward (e : ℕ) (s : State) : Type 0 where
+  pub listed : isListedEvent e ≡ true
+  pub room : s .count ≡ 2 ^ 64 - 1 → ⊥
+  pub pixels : pixelRefusal e (s .chip) (s .memory) ≡ 0
+
+onward : (e : ℕ) (s : State) → refusalPastEntry e s ≡ 0 → Onward e s
+unfolding refusalPastEntry eventRefusal
+onward e s h =
+    let parts = then-zero (eventRefusal e (s .count)) (pixelRefusal e (s .chip) (s .memory)) h in
+    let event = then-zero (refuse (not (isListedEvent e)) 3) (refuse (eqb (s .count) (2 ^ 64 - 1)) 4) (parts .0) in
+    record { listed = not-false _ (refuse-none _ 2 (event .0)); room = eqb-false _ _ (refuse-none _ 3 (event .1)); pixels = parts .1 }
+
+pub room-left : (e : ℕ) (s : State) → refusalPastEntry e s ≡ 0 → s .count ≡ 2 ^ 64 - 1 → ⊥
+room-left e s h = onward e s h .room
+
 pub accepts : (e : ℕ) (s : State) → refusalOf e s ≡ 0 → Accepts e s
-unfolding refusalOf eventRefusal
+unfolding refusalOf refusalPastEntry
 accepts e s h =
-    let first = then-zero (entryRefusal s) (eventRefusal e (s .count) then pixelRefusal e (s .chip) (s .memory)) h in
-    let second = then-zero (eventRefusal e (s .count)) (pixelRefusal e (s .chip) (s .memory)) (first .1) in
-    let later = then-zero (refuse (not (isListedEvent e)) 3) (refuse (eqb (s .count) (2 ^ 64 - 1)) 4) (second .0) in
-    record {
-      fit = entry-fit s (first .0);
-      listed = not-false _ (refuse-none _ 2 (later .0));
-      room = eqb-false _ _ (refuse-none _ 3 (later .1));
-      pixels = second .1;
-    }
+    let parts = then-zero (entryRefusal s) (refusalPastEntry e s) h in
+    let rest = onward e s (parts .1) in
+    record { fit = entry-fit s (parts .0); listed = rest .listed; room = rest .room; pixels = rest .pixels }

@@ -1,3 +1,4 @@
 pub mod Event
 pub mod Step
 pub mod Run
+pub mod PastEntry

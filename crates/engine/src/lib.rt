@@ -5,6 +5,7 @@ mod byte;
 pub mod event;
 pub mod fitting;
 mod mending;
+pub mod past_entry;
 mod refusal;
 pub mod run;
 mod sequence;

@@ -3,7 +3,8 @@ ghost use mathlib.Core.Path.{_≡_};
 ghost use Rattle.registers.specs.State.{state};
 ghost use Rattle.commands.specs.declared.answer.CommandAnswer.the-variants.{Unknown, OutOfRange};
 ghost use Rattle.engine.specs.declared.answer.Answer.the-variants.{Nothing};
-ghost use Rattle.engine.specs.Run.{outcome, runFrom, runOf, tally, answerFrom, lastAnswer};
+ghost use Rattle.engine.specs.PastEntry.{entryUnless, runPastEntry, tallyPastEntry, answerPastEntry};
+ghost use Rattle.engine.specs.Run.{outcome, unlessStopped, countUnless, answerUnless};
 use crate::answer::Answer;
 use commands::answer::CommandAnswer;
 use registers::Chip;
@@ -20,7 +21,7 @@ pub struct Performed {
     pub count: u64,
 }
 
-// Events in order up to the first refused one, with no test at entry.
+// Events in order up to the first that 3, 4 or 16 refuses; 1 and 2 are not tested.
 fn go_through(
     chip: Chip,
     count: u64,
@@ -29,10 +30,10 @@ fn go_through(
     events: &[u16],
 ) -> Performed
     ensures { λ r. ⌜ outcome (r .done) (r .refusal) (state (r .chip) (now (memory .exit)) (now (writers .exit)) (r .count))
-        ≡ runFrom 0 (now (events .entry)) (state chip (now (memory .entry)) (now (writers .entry)) count) ⌝ }
-    ensures { λ r. ⌜ r .unknown ≡ tally Unknown (now (events .entry)) (state chip (now (memory .entry)) (now (writers .entry)) count) ⌝ }
-    ensures { λ r. ⌜ r .«out_of_range» ≡ tally OutOfRange (now (events .entry)) (state chip (now (memory .entry)) (now (writers .entry)) count) ⌝ }
-    ensures { λ r. ⌜ r .answer ≡ answerFrom (now (events .entry)) (state chip (now (memory .entry)) (now (writers .entry)) count) Nothing ⌝ }
+        ≡ runPastEntry 0 (now (events .entry)) (state chip (now (memory .entry)) (now (writers .entry)) count) ⌝ }
+    ensures { λ r. ⌜ r .unknown ≡ tallyPastEntry Unknown (now (events .entry)) (state chip (now (memory .entry)) (now (writers .entry)) count) ⌝ }
+    ensures { λ r. ⌜ r .«out_of_range» ≡ tallyPastEntry OutOfRange (now (events .entry)) (state chip (now (memory .entry)) (now (writers .entry)) count) ⌝ }
+    ensures { λ r. ⌜ r .answer ≡ answerPastEntry (now (events .entry)) (state chip (now (memory .entry)) (now (writers .entry)) count) Nothing ⌝ }
 {
     let mut now_chip = chip;
     let mut now_count = count;
@@ -43,14 +44,7 @@ fn go_through(
     while done < events.len() {
         let event = events[done];
         let mended = crate::mending::upon(event, now_chip, memory);
-        let refused = crate::refusal::of_step(
-            event,
-            now_chip,
-            now_count,
-            memory.len(),
-            writers.len(),
-            mended.fit,
-        );
+        let refused = crate::refusal::past_entry(event, now_count, mended.fit);
         if refused != 0 {
             return Performed {
                 done,
@@ -82,8 +76,10 @@ fn go_through(
     }
 }
 
-// The same, with 1 and 2 tested at entry, even with no events.
+// The same, with 1 and 2 tested at entry, even with no events, unless the caller has tested them. It alone goes through events, so that their loop is
+// compiled into it.
 pub fn perform(
+    tested: bool,
     chip: Chip,
     count: u64,
     memory: &mut [u8],
@@ -91,12 +87,12 @@ pub fn perform(
     events: &[u16],
 ) -> Performed
     ensures { λ r. ⌜ outcome (r .done) (r .refusal) (state (r .chip) (now (memory .exit)) (now (writers .exit)) (r .count))
-        ≡ runOf (now (events .entry)) (state chip (now (memory .entry)) (now (writers .entry)) count) ⌝ }
-    ensures { λ r. ⌜ r .unknown ≡ tally Unknown (now (events .entry)) (state chip (now (memory .entry)) (now (writers .entry)) count) ⌝ }
-    ensures { λ r. ⌜ r .«out_of_range» ≡ tally OutOfRange (now (events .entry)) (state chip (now (memory .entry)) (now (writers .entry)) count) ⌝ }
-    ensures { λ r. ⌜ r .answer ≡ lastAnswer (now (events .entry)) (state chip (now (memory .entry)) (now (writers .entry)) count) ⌝ }
+        ≡ unlessStopped (entryUnless tested (state chip (now (memory .entry)) (now (writers .entry)) count)) 0 (state chip (now (memory .entry)) (now (writers .entry)) count) (runPastEntry 0 (now (events .entry)) (state chip (now (memory .entry)) (now (writers .entry)) count)) ⌝ }
+    ensures { λ r. ⌜ r .unknown ≡ countUnless (entryUnless tested (state chip (now (memory .entry)) (now (writers .entry)) count)) (tallyPastEntry Unknown (now (events .entry)) (state chip (now (memory .entry)) (now (writers .entry)) count)) ⌝ }
+    ensures { λ r. ⌜ r .«out_of_range» ≡ countUnless (entryUnless tested (state chip (now (memory .entry)) (now (writers .entry)) count)) (tallyPastEntry OutOfRange (now (events .entry)) (state chip (now (memory .entry)) (now (writers .entry)) count)) ⌝ }
+    ensures { λ r. ⌜ r .answer ≡ answerUnless (entryUnless tested (state chip (now (memory .entry)) (now (writers .entry)) count)) (answerPastEntry (now (events .entry)) (state chip (now (memory .entry)) (now (writers .entry)) count) Nothing) ⌝ }
 {
-    let entry = crate::refusal::at_entry(chip, memory.len(), writers.len());
+    let entry = crate::refusal::at_entry(tested, chip, memory.len(), writers.len());
     if entry != 0 {
         return Performed {
             done: 0,

@@ -18,7 +18,7 @@ pub fn step(event: u16, chip: Chip, count: u64, memory: &mut [u8], writers: &mut
         ≡ stepOf event (state chip (now (memory .entry)) (now (writers .entry)) count) ⌝ }
 {
     let events = [event];
-    let performed = crate::sequence::perform(chip, count, memory, writers, &events);
+    let performed = crate::sequence::perform(false, chip, count, memory, writers, &events);
     let answer = performed.answer;
     let chip = performed.chip;
     Stepped {

@@ -154,7 +154,7 @@ module _ (s : State) (h : Stands s) where
 
   pub stays-standing : (e : ℕ) → refusalOf e s ≡ 0 → Stands (stepOf e s .state)
   stays-standing e r =
-      allowed-stands (stepOf e s .state .chip) (stays-fit e s r (accepts e s r .fit) .is-allowed) (step-answers e r .status-byte)
+      allowed-stands (stepOf e s .state .chip) (stays-fit e s (accepts e s r .fit) .is-allowed) (step-answers e r .status-byte)
 
 -- ---- events one by one, the first n of which are not refused
 

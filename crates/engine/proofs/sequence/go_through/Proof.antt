@@ -1,11 +1,11 @@
 use Rattle.engine.proofs.CodeWays.{refusal-told, whole-event}
 use Rattle.engine.proofs.CodeWays.{run-stops, run-goes-on, run-ends, answer-stops, answer-goes-on, answer-ends}
 use Rattle.engine.proofs.CodeWays.{Tallied, tally-begins, tally-stops, tally-goes-on, tally-ends}
-use Rattle.engine.proofs.Refusals.{accepts}
+use Rattle.engine.proofs.Refusals.{room-left}
 use Rattle.engine.proofs.Tallies.{counted-once}
 use Rattle.commands.specs.declared.answer.CommandAnswer.the-variants.{Unknown, OutOfRange}
-use Rattle.engine.specs.Run.{runFrom, tally, answerFrom}
-use Rattle.engine.specs.Step.{refusalOf, entryRefusal, accepted}
+use Rattle.engine.specs.PastEntry.{runPastEntry, tallyPastEntry, answerPastEntry}
+use Rattle.engine.specs.Step.{accepted}
 use Rattle.registers.specs.State.{state}
 use lib.ListN.{length, drop, getD}
 use native.Mathlib.Omega.{arith}
@@ -20,10 +20,10 @@ Inv-loop count memory₀ writers₀ events now-chip₀ now-count₀ answer₀ do
     ((done ≤ length events) × (now-count < 2 ^ 64))
     × (length memory ≡ length memory₀)
     × (length writers ≡ length writers₀)
-    × (runFrom done (drop done events) (state now-chip memory writers now-count) ≡ runFrom 0 events (state now-chip₀ memory₀ writers₀ now-count₀))
-    × (answerFrom (drop done events) (state now-chip memory writers now-count) answer ≡ answerFrom events (state now-chip₀ memory₀ writers₀ now-count₀) answer₀)
-    × Tallied Unknown (tally Unknown events (state now-chip₀ memory₀ writers₀ now-count₀)) events done (state now-chip memory writers now-count) unknown
-    × Tallied OutOfRange (tally OutOfRange events (state now-chip₀ memory₀ writers₀ now-count₀)) events done (state now-chip memory writers now-count) out-of-range
+    × (runPastEntry done (drop done events) (state now-chip memory writers now-count) ≡ runPastEntry 0 events (state now-chip₀ memory₀ writers₀ now-count₀))
+    × (answerPastEntry (drop done events) (state now-chip memory writers now-count) answer ≡ answerPastEntry events (state now-chip₀ memory₀ writers₀ now-count₀) answer₀)
+    × Tallied Unknown (tallyPastEntry Unknown events (state now-chip₀ memory₀ writers₀ now-count₀)) events done (state now-chip memory writers now-count) unknown
+    × Tallied OutOfRange (tallyPastEntry OutOfRange events (state now-chip₀ memory₀ writers₀ now-count₀)) events done (state now-chip memory writers now-count) out-of-range
 
 abbrev μ-loop : tie.MeasureT-loop
 μ-loop count memory₀ writers₀ events now-chip₀ now-count₀ answer₀ done₀ unknown₀ out-of-range₀ memory writers now-chip now-count answer done unknown out-of-range =
@@ -41,8 +41,8 @@ shared-slice-read-event c = search needs
 upon-requires : tie.Need-upon-requires Inv-loop μ-loop
 upon-requires c κs = search needs
 
-of-step-requires : tie.Need-of-step-requires Inv-loop μ-loop
-of-step-requires c κs = search needs
+past-entry-requires : tie.Need-past-entry-requires Inv-loop μ-loop
+past-entry-requires c κs = search needs
 
 same-length : tie.Need-same-length Inv-loop μ-loop
 same-length c = search needs
@@ -51,14 +51,13 @@ same-length-2 : tie.Need-same-length-2 Inv-loop μ-loop
 same-length-2 c = search needs
 
 returns : tie.Need-returns Inv-loop μ-loop
-unfolding refusalOf entryRefusal
 returns c =
     let inside = c .before .before .before .before .before .loop-test .taken in
     let here = c .before .before .before .before .before .before in
     let at-head = here .loop .inv in
     let event = getD (here .before .before .before .before .args .events .now) (here .loop .done) 0 in
     let before = state (here .loop .now-chip) (here .loop .memory) (here .loop .writers) (here .loop .now-count) in
-    let refused = refusal-told event before _ _ (c .before .before .upon .ensures .0) (c .before .of-step .ensures) in (
+    let refused = refusal-told event before _ _ (c .before .before .upon .ensures .0) (c .before .past-entry .ensures) in (
       sym (run-stops _ _ inside _ _ refused (c .if1 .taken)) ∙ at-head .3,
       (
         tally-stops _ _ inside _ _ _ _ (at-head .5) _ refused (c .if1 .taken),
@@ -70,13 +69,12 @@ returns c =
     )
 
 add-now-count : tie.Need-add-now-count Inv-loop μ-loop
-unfolding refusalOf entryRefusal
 add-now-count c =
     let here = c .before .before .before .before .before .before in
     let event = getD (here .before .before .before .before .args .events .now) (here .loop .done) 0 in
     let before = state (here .loop .now-chip) (here .loop .memory) (here .loop .writers) (here .loop .now-count) in
-    let refused = refusal-told event before _ _ (c .before .before .upon .ensures .0) (c .before .of-step .ensures) in
-    omega (arith, accepts event before (sym refused ∙ c .if1 .left) .room)
+    let refused = refusal-told event before _ _ (c .before .before .upon .ensures .0) (c .before .past-entry .ensures) in
+    omega (arith, room-left event before (sym refused ∙ c .if1 .left))
 
 apply-requires : tie.Need-apply-requires Inv-loop μ-loop
 apply-requires c κs = search needs
@@ -115,7 +113,7 @@ loop-less c =
     omega (arith, test .loop-test .taken)
 
 loop-again : tie.Need-loop-again Inv-loop μ-loop
-unfolding refusalOf entryRefusal accepted
+unfolding accepted
 loop-again c =
     let unknown = c .before in
     let mended = unknown .before in
@@ -128,9 +126,9 @@ loop-again c =
     let inside = test .loop-test .taken in
     let event = getD (test .before .before .before .before .before .args .events .now) (here .done) 0 in
     let before = state (here .now-chip) (here .memory) (here .writers) (here .now-count) in
-    let refused = refusal-told event before _ _ (pixels .upon .ensures .0) (none .before .of-step .ensures) in
+    let refused = refusal-told event before _ _ (pixels .upon .ensures .0) (none .before .past-entry .ensures) in
     let whole = whole-event event before _ (applied .apply .result .chip) _ _ _ _ _ (applied .apply .ensures) (pixels .upon .ensures .1) (mended .with-pixels .ensures) in (
-      (omega (arith, inside), omega (arith, accepts event before (sym refused ∙ none .if1 .left) .room)),
+      (omega (arith, inside), omega (arith, room-left event before (sym refused ∙ none .if1 .left))),
       applied .apply .kept .1 .1 .1 .0 ∙ at-head .1,
       applied .apply .kept .1 .1 .1 .1 .0 ∙ at-head .2,
       sym (run-goes-on _ _ inside _ _ _ refused (none .if1 .left) whole) ∙ at-head .3,
@@ -165,7 +163,7 @@ go-through-spec =
     mul-event
     shared-slice-read-event
     upon-requires
-    of-step-requires
+    past-entry-requires
     same-length
     same-length-2
     returns

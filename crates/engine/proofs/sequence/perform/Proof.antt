@@ -1,5 +1,4 @@
-use Rattle.engine.proofs.CodeWays.{run-refused, run-entered, answer-refused, answer-entered}
-use Rattle.engine.proofs.Tallies.{tally-refused}
+use Rattle.engine.proofs.CodeWays.{entry-stops, entry-passes}
 use Rattle.engine.specs.Step.{entryRefusal}
 use borrow.Author.Needs.{needs}
 use Rattle.engine.proofs.sequence.perform.Statement.{statement}
@@ -10,10 +9,7 @@ at-entry-requires c κs = search needs
 
 returns : tie.Need-returns
 unfolding entryRefusal
-returns c =
-    let refused = c .before .at-entry .ensures in
-    let none = c .if1 .taken in
-    (run-refused _ _ _ refused none, (tally-refused _ _ _ _ refused none, (tally-refused _ _ _ _ refused none, answer-refused _ _ _ refused none)))
+returns c = entry-stops _ _ _ _ _ _ _ (c .before .at-entry .ensures) (c .if1 .taken)
 
 go-through-requires : tie.Need-go-through-requires
 go-through-requires c κs = search needs
@@ -28,12 +24,9 @@ returns-2 : tie.Need-returns-2
 unfolding entryRefusal
 returns-2 c =
     let through = c .before .before .before .before in
-    let entry = through .before .before .before .before .at-entry .ensures in
-    let entered = through .before .before .before .if1 .left in
-    let made = through .go-through .ensures in (
-      run-entered _ _ _ _ entry entered (made .0),
-      (made .1 .0, (made .1 .1 .0, answer-entered _ _ _ _ entry entered (made .1 .1 .1))),
-    )
+    let test = through .before .before .before in
+    let made = through .go-through .ensures in
+    entry-passes _ _ _ _ _ _ _ _ _ _ _ (test .before .at-entry .ensures) (test .if1 .left) (made .0) (made .1 .0) (made .1 .1 .0) (made .1 .1 .1)
 
 pub perform-spec : {M : Type 1} → statement M
 perform-spec =

@@ -16,7 +16,9 @@ same-length-2 : tie.Need-same-length-2
 same-length-2 c = search needs
 
 returns : tie.Need-returns
-returns c = step-of-run _ _ _ _ _ _ (c .before .before .before .before .before .perform .ensures .0) (c .before .before .before .before .before .perform .ensures .1 .1 .1)
+returns c =
+    let made = c .before .before .before .before .before .perform .ensures in
+    step-of-run _ _ _ _ _ _ (made .0) (made .1 .1 .1)
 
 pub step-spec : {M : Type 1} → statement M
 step-spec =
