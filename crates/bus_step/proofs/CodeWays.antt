@@ -8,12 +8,16 @@ use Rattle.registers.proofs.Below.{and-true}
 use Rattle.engine.specs.declared.answer.Answer.{Answer}
 use Rattle.engine.specs.declared.answer.Answer.the-variants.{Refused, Nothing}
 use Rattle.engine.specs.Event.{eventOf}
-use Rattle.engine.specs.Step.{After, stepOf}
+use Rattle.engine.specs.PastEntry.{stepPastEntry}
+use Rattle.engine.specs.Step.{After}
+use Rattle.engine.proofs.PastEntry.{same-step}
+use Rattle.engine.proofs.Refusals.{accepts}
 use Rattle.bus.specs.Bus.{Device, Bus, bus, At, alone, every, hasOtherPins}
 use Rattle.bus.specs.Refusals.{isLong, devicesRefusalFor, devicesRefusal, isSensorReading, sentRefusal, countsFit, pixelsRefusalFor, busRefusal}
 use Rattle.bus.specs.Step.{misses, heardBy, deviceAfter, unanswered, orElse, BusAfter, busAfter, busAccepted, unlessRefused, busStepOf}
 use Rattle.bus.proofs.Answers.{heard-as-alone}
 use Rattle.bus.proofs.Phases as Phases
+use Rattle.bus.proofs.Refusals.{accepted-alone}
 use Rattle.bus_step.specs.Part.{Part, part, partIn, partOf, deviceBy, answerBy}
 
 -- ---- one chip
@@ -23,7 +27,7 @@ module _ (e k n : ℕ) (d : Device) (t : Bool) (told : t ≡ isSensorReading e) 
   unfolding partOf
   missed h = let m : misses e k d ≡ true = ap (λ (x : Bool). x && hasOtherPins k d) (sym told) ∙ h in rw m
 
-  pub heard : (a : After) → t && hasOtherPins k d ≡ false → a ≡ stepOf e (alone n d) → partIn a ≡ partOf e k n d
+  pub heard : (a : After) → t && hasOtherPins k d ≡ false → a ≡ stepPastEntry e (alone n d) → partIn a ≡ partOf e k n d
   unfolding partOf
   heard a h q = let m : misses e k d ≡ false = ap (λ (x : Bool). x && hasOtherPins k d) (sym told) ∙ h in ap partIn q ∙ rw m
 
@@ -57,9 +61,11 @@ module _ (e k : ℕ) (b : Bus) (h : busRefusal e k b ≡ 0) where
   unfolding partOf
   part-heard i d at = go (misses e k d) refl
     where
-      go : (m : Bool) → misses e k d ≡ m → cond m (part Nothing d) (partIn (stepOf e (alone (b .count) d))) ≡ partIn (heardBy e k (b .count + 1) d)
+      go : (m : Bool) → misses e k d ≡ m → cond m (part Nothing d) (partIn (stepPastEntry e (alone (b .count) d))) ≡ partIn (heardBy e k (b .count + 1) d)
       go true q = ap partIn (sym (Phases.missed e k (b .count + 1) d q))
-      go false q = ap partIn (sym (heard-as-alone e k b h i d at q))
+      go false q =
+          let fit = accepts e (alone (b .count) d) (accepted-alone e k b h i d at) .fit in
+          ap partIn (same-step e (alone (b .count) d) fit ∙ sym (heard-as-alone e k b h i d at q))
 
 -- ---- the step
 

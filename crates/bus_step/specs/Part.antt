@@ -1,12 +1,13 @@
 -- A chip's part in an event of its bus, as the code asks for it: a sensor reading that names other pins passes by, and the rest is the step of a chip
--- alone, which tests the refusals of one chip once more. Where the bus accepts the event there are none, and this is what the bus's definition says.
+-- alone past its entry: the bus has tested 1 and 2 for all its chips. Where it accepts the event, this is what the bus's definition says.
 use mathlib.Core.Bool.{cond}
 use mathlib.Core.List.{List, [], _∷_}
 use Prim.Native.Nat.{ℕ}
 use Rattle.engine.specs.declared.answer.Answer.{Answer}
 use Rattle.engine.specs.declared.answer.Answer.the-variants.{Nothing}
 use Rattle.engine.specs.Event.{eventOf}
-use Rattle.engine.specs.Step.{After, stepOf}
+use Rattle.engine.specs.PastEntry.{stepPastEntry}
+use Rattle.engine.specs.Step.{After}
 use Rattle.bus.specs.Bus.{Device, alone, deviceOf}
 use Rattle.bus.specs.Step.{misses, unanswered, orElse}
 
@@ -21,7 +22,7 @@ abbrev pub partIn : After → Part
 partIn a = part (a .answer) (deviceOf (a .state))
 
 unfoldable pub partOf : ℕ → ℕ → ℕ → Device → Part
-partOf e k count d = cond (misses e k d) (part Nothing d) (partIn (stepOf e (alone count d)))
+partOf e k count d = cond (misses e k d) (part Nothing d) (partIn (stepPastEntry e (alone count d)))
 
 abbrev pub deviceBy : ℕ → ℕ → ℕ → Device → Device
 deviceBy e k count d = partOf e k count d .device

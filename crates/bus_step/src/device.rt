@@ -11,8 +11,8 @@ pub struct Heard {
     pub chip: Chip,
 }
 
-// A sensor reading is for the chip whose pins it names; every other event is for all. The step tests the refusals of one chip again: what a run does
-// with an event has a single caller, and is fast for that reason.
+// A sensor reading is for the chip whose pins it names; every other event is for all. The bus has tested 1 and 2 for each of its chips, so that the chip's
+// step is one past its entry. It tests 3, 4 and 16 again: what a run does with an event has a single caller, and is fast for that reason.
 pub fn hear(
     event: u16,
     pins: u64,
@@ -31,7 +31,7 @@ pub fn hear(
             chip,
         };
     }
-    let stepped = engine::step::step(event, chip, count, memory, writers);
+    let stepped = engine::past_entry::step(event, chip, count, memory, writers);
     let answer = stepped.answer;
     let chip = stepped.chip;
     Heard { answer, chip }
