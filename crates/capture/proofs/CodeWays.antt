@@ -11,21 +11,23 @@ use Rattle.registers.specs.declared.Chip.{Chip}
 use Rattle.registers.specs.Record.{allowed}
 use Rattle.registers.specs.State.{State}
 use Rattle.text.proofs.Finding.{drop-next}
-use Rattle.chip.specs.Promised.{Outcome}
+use Rattle.chip.specs.Promised.{Outcome, Fit}
+use Rattle.chip.proofs.Laws.{run-past-entry}
 use Rattle.capture_lines.specs.declared.LineSoFar.{LineSoFar}
-use Rattle.capture_lines.specs.declared.LineSoFar.the-variants.{Bad}
+use Rattle.capture_lines.specs.declared.LineSoFar.the-variants.{First, Pins, Empty, Number, BadFirst, Bad}
 use Rattle.capture_lines.specs.declared.Scanned.{Scanned}
 use Rattle.capture_lines.specs.Line.{newline}
 use Rattle.capture_lines.specs.SoFar.{withByte, scannedFrom}
 use Rattle.capture.specs.declared.End.{End}
 use Rattle.capture.specs.declared.End.the-variants as ends
-use Rattle.capture.specs.Feeding.{Playing, playing, lineAfter, played, endedLine, withNext, bytesFed, lineAllowed, keptRefusal, fedUnless}
+use Rattle.capture.specs.Feeding.{Playing, playing, lineAfter, played, endedLine, endedPastEntry, withNext, bytesFed, lineAllowed, keptRefusal, fedUnless}
 use Rattle.capture.specs.Feeding.{endOf, endUnless}
+use Rattle.capture.proofs.Refusals.{with-byte-allowed}
 
 -- ---- a line of a known kind
 
 module _ (known line : LineSoFar) (e : line ≡ known) where
-  pub ended-known : (s : State) (p : Playing) → p ≡ endedLine known s → p ≡ endedLine line s
+  pub ended-known : (s : State) (p : Playing) → p ≡ endedPastEntry known s → p ≡ endedPastEntry line s
   ended-known s p h = rw e h
 
   pub end-known : (c : Chip) (n : ℕ) (r : End) → r ≡ endOf known c n → r ≡ endOf line c n
@@ -42,6 +44,16 @@ after-refused (suc k) n = refl
 
 pub after-played : (o p : Outcome) (l : LineSoFar) → o ≡ p → l ≡ lineAfter (o .refusal) → playing l (o .state) ≡ played p
 after-played o p l h hl = rw (hl, h)
+
+-- past the entry that lets s pass, it ends as the definition says
+pub same-ended : (l : LineSoFar) (s : State) → Fit s → endedPastEntry l s ≡ endedLine l s
+unfolding endedPastEntry endedLine
+same-ended (First k) s fit = refl
+same-ended (Pins p) s fit = refl
+same-ended Empty s fit = refl
+same-ended (Number e) s fit = ap played (run-past-entry (e ∷ []) s fit)
+same-ended BadFirst s fit = refl
+same-ended Bad s fit = refl
 
 -- ---- the test of what is kept: a and b are what the code found
 
@@ -87,6 +99,7 @@ pub record Scan (part : List ℕ) (at : ℕ) (l : LineSoFar) (r : Scanned) : Typ
   pub within : r .at ≤ length part
   pub stops : r .at < length part → getD part (r .at) 0 ≡ newline
   pub leaves : (s : State) → bytesFed (drop at part) (playing l s) ≡ bytesFed (drop (r .at) part) (playing (r .line) s)
+  pub line-allowed : lineAllowed l ≡ true → lineAllowed (r .line) ≡ true
 
 -- a byte that joins its line
 byte-joins :
@@ -97,7 +110,7 @@ byte-joins bs part at b l s e en t = rw (e, en, t)
 
 scans : (bs part : List ℕ) (at : ℕ) (l : LineSoFar) → drop at part ≡ bs → at ≤ length part → Scan part at l (scannedFrom at bs l)
 unfolding scannedFrom
-scans [] part at l e h = record { starts = omega arith; within = h; stops = λ i. absurd (past i); leaves = λ s. refl }
+scans [] part at l e h = record { starts = omega arith; within = h; stops = λ i. absurd (past i); leaves = λ s. refl; line-allowed = λ a. a }
   where
     past : at < length part → ⊥
     past i = let z : _≡_ {A = ℕ} 0 1 = cc (drop-next part at i) in omega arith
@@ -118,13 +131,14 @@ scans (b ∷ bs) part at l e h = go (eqb b newline) refl (scans bs part (at + 1)
     go :
         (t : Bool) → eqb b newline ≡ t → Scan part (at + 1) (withByte l b) (scannedFrom (at + 1) bs (withByte l b))
         → Scan part at l (cond t (record { line = l; at = at }) (scannedFrom (at + 1) bs (withByte l b)))
-    go true t rest = record { starts = omega arith; within = h; stops = λ i. byte ∙ eqb-true b newline t; leaves = λ s. refl }
+    go true t rest = record { starts = omega arith; within = h; stops = λ i. byte ∙ eqb-true b newline t; leaves = λ s. refl; line-allowed = λ a. a }
     go false t rest =
         record {
           starts = omega (arith, rest .starts);
           within = rest .within;
           stops = rest .stops;
           leaves = λ s. byte-joins bs part at b l s e behind t ∙ rest .leaves s;
+          line-allowed = λ a. rest .line-allowed (with-byte-allowed l b);
         }
 
 pub scanned : (part : List ℕ) (at : ℕ) (l : LineSoFar) (r : Scanned) → r ≡ scannedFrom at (drop at part) l → at ≤ length part → Scan part at l r

@@ -133,7 +133,7 @@ word-byte k b = go (ltb k 5) refl
     go true e = either (eqb b (getD word k 0)) _ _ (le-leb (k + 1) 5 (omega (arith, ltb-true k 5 e))) refl
     go false e = pins-digit b
 
-with-byte-allowed : (l : LineSoFar) (b : ℕ) → lineAllowed (withByte l b) ≡ true
+pub with-byte-allowed : (l : LineSoFar) (b : ℕ) → lineAllowed (withByte l b) ≡ true
 unfolding withByte
 with-byte-allowed (First k) b = word-byte k b
 with-byte-allowed (Pins p) b = refl
@@ -150,7 +150,7 @@ after-allowed : (k : ℕ) → lineAllowed (lineAfter k) ≡ true
 after-allowed zero = refl
 after-allowed (suc k) = refl
 
-ended-passed : (l : LineSoFar) (s : State) → Fit s → lineAllowed l ≡ true → Passed (endedLine l s)
+pub ended-passed : (l : LineSoFar) (s : State) → Fit s → lineAllowed l ≡ true → Passed (endedLine l s)
 unfolding endedLine
 ended-passed (First k) s fit a = record { fit = fit; line-allowed = refl }
 ended-passed (Pins p) s fit a =

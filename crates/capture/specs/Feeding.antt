@@ -8,7 +8,7 @@ use Rattle.registers.specs.declared.Chip.{Chip}
 use Rattle.registers.specs.Record.{allowed, resetChip}
 use Rattle.registers.specs.Refusals.{refuse, _then_, lengthsRefusal}
 use Rattle.registers.specs.State.{State, state}
-use Rattle.chip.specs.Promised.{Outcome, runOf}
+use Rattle.chip.specs.Promised.{Outcome, runOf, runPastEntry}
 use Rattle.capture_lines.specs.declared.LineSoFar.{LineSoFar}
 use Rattle.capture_lines.specs.declared.LineSoFar.the-variants.{First, Pins, Empty, Number, BadFirst, Bad}
 use Rattle.capture_lines.specs.Line.{newline}
@@ -50,6 +50,15 @@ endedLine Empty s = playing Bad s
 endedLine (Number e) s = played (runOf (e ∷ []) s)
 endedLine BadFirst s = playing BadFirst s
 endedLine Bad s = playing Bad s
+
+-- the same past the entry of a part, which tests 1 and 2 for all its events
+unfoldable pub endedPastEntry : LineSoFar → State → Playing
+endedPastEntry (First k) s = endedLine (First k) s
+endedPastEntry (Pins p) s = endedLine (Pins p) s
+endedPastEntry Empty s = endedLine Empty s
+endedPastEntry (Number e) s = played (runPastEntry 0 (e ∷ []) s)
+endedPastEntry BadFirst s = endedLine BadFirst s
+endedPastEntry Bad s = endedLine Bad s
 
 -- ---- bytes
 

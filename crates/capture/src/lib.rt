@@ -1,6 +1,7 @@
 // A capture read in parts of any size, and played on a chip as it comes: document 01, "Replay listing".
 ghost use mathlib.Core.Path.{_≡_};
 ghost use Rattle.capture.specs.Feeding.{kept, startOf, bytesFed, fed, feedOf, endOf, finishOf, isOverAt};
+ghost use Rattle.capture.specs.Where.{Passed};
 use capture_lines::LineSoFar;
 use registers::Chip;
 
@@ -44,6 +45,7 @@ pub fn start() -> Capture
 
 // The bytes of a part that is not refused.
 fn feed_bytes(capture: Capture, memory: &mut [u8], writers: &mut [u64], part: &[u8]) -> Capture
+    requires { ⌜ Passed (kept capture (now memory) (now writers)) ⌝ }
     ensures { λ r. ⌜ kept r (now (memory .exit)) (now (writers .exit))
         ≡ bytesFed (now (part .entry)) (kept capture (now (memory .entry)) (now (writers .entry))) ⌝ }
 {

@@ -1,9 +1,9 @@
-// A newline: the line is whole, and its event is played.
+// A newline: the line is whole, and its event is played. The entry of the part has tested 1 and 2, and neither is tested at an event.
 ghost use mathlib.Core.List.{[], _∷_};
 ghost use mathlib.Core.Path.{_≡_};
 ghost use Rattle.registers.specs.State.{state};
-ghost use Rattle.chip.specs.Promised.{runOf};
-ghost use Rattle.capture.specs.Feeding.{kept, lineAfter, played, endedLine};
+ghost use Rattle.chip.specs.Promised.{runPastEntry};
+ghost use Rattle.capture.specs.Feeding.{kept, lineAfter, played, endedPastEntry};
 use crate::Capture;
 use capture_lines::LineSoFar;
 use registers::Chip;
@@ -20,10 +20,10 @@ fn line_after(refusal: u8) -> LineSoFar
 
 fn play(event: u16, chip: Chip, count: u64, memory: &mut [u8], writers: &mut [u64]) -> Capture
     ensures { λ r. ⌜ kept r (now (memory .exit)) (now (writers .exit))
-        ≡ played (runOf (event ∷ []) (state chip (now (memory .entry)) (now (writers .entry)) count)) ⌝ }
+        ≡ played (runPastEntry 0 (event ∷ []) (state chip (now (memory .entry)) (now (writers .entry)) count)) ⌝ }
 {
     let events = [event];
-    let ran = engine::run::run(chip, count, memory, writers, &events);
+    let ran = engine::past_entry::run(chip, count, memory, writers, &events);
     let after = ran.chip;
     Capture {
         chip: after,
@@ -40,7 +40,7 @@ pub fn end_line(
     writers: &mut [u64],
 ) -> Capture
     ensures { λ r. ⌜ kept r (now (memory .exit)) (now (writers .exit))
-        ≡ endedLine line (state chip (now (memory .entry)) (now (writers .entry)) count) ⌝ }
+        ≡ endedPastEntry line (state chip (now (memory .entry)) (now (writers .entry)) count) ⌝ }
 {
     match line {
         LineSoFar::First(_) => Capture {

@@ -1,9 +1,11 @@
-// A newline: the line is whole, its event is played, tallied, and told where that is asked for.
+// A newline: the line is whole, its event is played, tallied, and told where that is asked for. The entry of the part has tested 1 and 2, and neither is
+// tested at an event.
 ghost use mathlib.Core.Path.{_≡_};
 ghost use Rattle.registers.specs.State.{state};
 ghost use Rattle.print.specs.Printed.{Wrote};
+ghost use Rattle.chip.specs.Promised.{Fit};
 ghost use Rattle.capture_lines.specs.declared.LineSoFar.the-variants.{Number};
-ghost use Rattle.capture.specs.Feeding.{playing, endedLine};
+ghost use Rattle.capture.specs.Feeding.{playing, endedLine, endedPastEntry};
 ghost use Rattle.capture_trace.specs.Done.{doneAtEnd};
 ghost use Rattle.capture_trace.specs.Follow.{toldLine, toldLines, talliedOver};
 use crate::tally::Tally;
@@ -46,6 +48,7 @@ fn play(
     writers: &mut [u64],
     out: &mut [u8],
 ) -> Course
+    requires { ⌜ Fit (state (course .chip) (now memory) (now writers) (course .count)) ⌝ }
     ensures { λ r. ⌜ playing (r .line) (state (r .chip) (now (memory .exit)) (now (writers .exit)) (r .count))
         ≡ endedLine (Number event) (state (course .chip) (now (memory .entry)) (now (writers .entry)) (course .count)) ⌝ }
     ensures { λ r. ⌜ r .tally
@@ -56,7 +59,7 @@ fn play(
     let before = course.chip;
     let tally = course.tally;
     let count = course.count;
-    let stepped = engine::step::step(event, before, count, memory, writers);
+    let stepped = engine::past_entry::step(event, before, count, memory, writers);
     let answer = stepped.answer;
     let after = stepped.chip;
     if stepped.count == count {
@@ -81,7 +84,7 @@ fn play(
 // A line that is no event's, as `capture` ends it.
 fn pass(course: Course, memory: &mut [u8], writers: &mut [u64]) -> Course
     ensures { λ r. ⌜ playing (r .line) (state (r .chip) (now (memory .exit)) (now (writers .exit)) (r .count))
-        ≡ endedLine (course .line) (state (course .chip) (now (memory .entry)) (now (writers .entry)) (course .count)) ⌝ }
+        ≡ endedPastEntry (course .line) (state (course .chip) (now (memory .entry)) (now (writers .entry)) (course .count)) ⌝ }
     ensures { λ r. ⌜ r .tally ≡ course .tally ⌝ }
     ensures { λ r. ⌜ r .length ≡ course .length ⌝ }
 {
@@ -107,6 +110,7 @@ pub fn end_line(
     writers: &mut [u64],
     out: &mut [u8],
 ) -> Course
+    requires { ⌜ Fit (state (course .chip) (now memory) (now writers) (course .count)) ⌝ }
     ensures { λ r. ⌜ playing (r .line) (state (r .chip) (now (memory .exit)) (now (writers .exit)) (r .count))
         ≡ endedLine (course .line) (state (course .chip) (now (memory .entry)) (now (writers .entry)) (course .count)) ⌝ }
     ensures { λ r. ⌜ r .tally

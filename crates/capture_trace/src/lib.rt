@@ -4,6 +4,7 @@ ghost use mathlib.Core.Path.{_≡_};
 ghost use Rattle.registers.specs.State.{state};
 ghost use Rattle.print.specs.Printed.{Wrote};
 ghost use Rattle.capture.specs.Feeding.{playing, kept, bytesFed, fed, feedOf};
+ghost use Rattle.capture.specs.Where.{Passed};
 ghost use Rattle.capture_trace.specs.Done.{doneInBytes, doneInPart};
 ghost use Rattle.capture_trace.specs.Follow.{toldLines, talliedOver};
 use crate::event::Course;
@@ -31,6 +32,7 @@ fn follow_bytes(
     part: &[u8],
     out: &mut [u8],
 ) -> Course
+    requires { ⌜ Passed (playing (course .line) (state (course .chip) (now memory) (now writers) (course .count))) ⌝ }
     ensures { λ r. ⌜ playing (r .line) (state (r .chip) (now (memory .exit)) (now (writers .exit)) (r .count))
         ≡ bytesFed (now (part .entry)) (playing (course .line) (state (course .chip) (now (memory .entry)) (now (writers .entry)) (course .count))) ⌝ }
     ensures { λ r. ⌜ r .tally ≡ talliedOver (doneInBytes (now (part .entry))

@@ -1,5 +1,7 @@
 use Rattle.capture.proofs.CodeWays.{part-refused, part-fed}
 use Rattle.capture.specs.Feeding.{feedOf}
+use Rattle.capture.proofs.Refusals.{none-refused}
+use mathlib.Core.Path.{sym, _∙_}
 use borrow.Author.Needs.{needs}
 use Rattle.capture.proofs.feed.Statement.{statement}
 use Rattle.capture.proofs.feed.Tie as tie
@@ -12,7 +14,9 @@ unfolding feedOf
 returns c = part-refused _ _ (c .before .of-part .ensures) _ _ (c .if1 .taken)
 
 feed-bytes-requires : tie.Need-feed-bytes-requires
-feed-bytes-requires c κs = search needs
+feed-bytes-requires c κs =
+    let test = c .before .before in
+    none-refused _ (sym (test .before .of-part .ensures) ∙ test .if1 .left)
 
 same-length : tie.Need-same-length
 same-length c = search needs

@@ -4,6 +4,7 @@ use native.Mathlib.Omega.{arith}
 use Rattle.print.proofs.Writing.{wrote-same}
 use Rattle.capture.specs.Feeding.{kept, feedOf}
 use Rattle.capture.proofs.CodeWays.{part-refused, part-fed}
+use Rattle.capture.proofs.Refusals.{none-refused}
 use Rattle.capture_trace.specs.Done.{DoneEvent, doneInBytes, doneInPart}
 use Rattle.capture_trace.specs.Follow.{toldLines, talliedOver}
 use Rattle.capture_trace.proofs.CodeWays.{refused-none, passed-all, none-tallied, none-told}
@@ -24,7 +25,9 @@ returns c =
     (part-refused _ _ refused _ _ (c .if1 .taken), (none-tallied (given .tally) none, none-told (given .told) _ _ (omega arith) none))
 
 follow-bytes-requires : tie.Need-follow-bytes-requires
-follow-bytes-requires c κs = search needs
+follow-bytes-requires c κs =
+    let test = c .before .before .before .before in
+    none-refused _ (sym (test .before .of-part .ensures) ∙ test .if1 .left)
 
 same-length : tie.Need-same-length
 same-length c = search needs

@@ -1,5 +1,5 @@
 use mathlib.Core.List.{List}
-use mathlib.Core.Path.{_≡_, refl, sym, ap, _∙_}
+use mathlib.Core.Path.{_≡_, refl, sym, ap, _∙_, subst}
 use Prim.Native.Nat.{ℕ, _-_, _≤_}
 use native.Mathlib.Omega.{arith}
 use lib.ListN.{drop}
@@ -8,6 +8,8 @@ use Rattle.registers.specs.State.{state}
 use Rattle.print.specs.Printed.{top, Wrote}
 use Rattle.print.proofs.Writing.{wrote-next, wrote-same}
 use Rattle.capture.specs.Feeding.{playing, bytesFed}
+use Rattle.capture.specs.Where.{Passed}
+use Rattle.capture.proofs.Refusals.{ended-passed}
 use Rattle.capture.proofs.CodeWays.{feed-ends, scanned, line-ends}
 use Rattle.capture_trace.specs.Done.{DoneEvent, doneInBytes}
 use Rattle.capture_trace.specs.Follow.{toldLines, talliedOver}
@@ -23,6 +25,7 @@ Inv-loop told memory₀ writers₀ part out₀ chip₀ count₀ line₀ tally₀
     × (lists.length writers ≡ lists.length writers₀)
     × (lists.length out ≡ lists.length out₀)
     × (length ≤ top)
+    × Passed (playing line (state chip memory writers count))
     × (bytesFed (drop at part) (playing line (state chip memory writers count)) ≡ bytesFed part (playing line₀ (state chip₀ memory₀ writers₀ count₀)))
     × (talliedOver (doneInBytes (drop at part) (playing line (state chip memory writers count))) tally
     ≡ talliedOver (doneInBytes part (playing line₀ (state chip₀ memory₀ writers₀ count₀))) tally₀)
@@ -33,13 +36,13 @@ abbrev μ-loop : tie.MeasureT-loop
 μ-loop told memory₀ writers₀ part out₀ chip₀ count₀ line₀ tally₀ length₀ at₀ memory writers out chip count line tally length at = lists.length part - at
 
 loop-holds : tie.Need-loop-holds Inv-loop μ-loop
-loop-holds c = (search needs, refl, refl, refl, search needs, refl, refl, λ l j w. w)
+loop-holds c = (search needs, refl, refl, refl, search needs, c .before .before .before .before .before .before .pre, refl, refl, λ l j w. w)
 
 scan-requires : tie.Need-scan-requires Inv-loop μ-loop
 scan-requires c κs = search needs
 
 end-line-requires : tie.Need-end-line-requires Inv-loop μ-loop
-end-line-requires c κs = search needs
+end-line-requires c κs = c .before .before .before .before .before .before .loop .inv .5 .fit
 
 add-at : tie.Need-add-at Inv-loop μ-loop
 add-at c =
@@ -65,17 +68,20 @@ loop-again c =
     let scan = scanned part (head .at) _ _ (test .before .scan .ensures) (head .inv .0) in
     let before = state (head .chip) (head .memory) (head .writers) (head .count) in
     let passed = none-scanned part (head .at) _ before _ (test .before .scan .ensures) (head .inv .0) in
-    let there = scan .stops (test .if1 .taken) in (
+    let there = scan .stops (test .if1 .taken) in
+    let fit = head .inv .5 .fit in
+    let allowed = scan .line-allowed (head .inv .5 .line-allowed) in (
       search needs,
       search needs,
       search needs,
       search needs,
       wrote-next (ended .ensures .1 .1),
-      line-ends _ _ _ _ _ (test .if1 .taken) there (ended .ensures .0) ∙ sym (scan .leaves _) ∙ head .inv .5,
+      subst Passed (sym (ended .ensures .0)) (ended-passed _ before fit allowed),
+      line-ends _ _ _ _ _ (test .if1 .taken) there (ended .ensures .0) ∙ sym (scan .leaves _) ∙ head .inv .6,
       turn-tallied part _ _ before (test .if1 .taken) there (ended .ensures .0) (head .tally) (ended .ensures .1 .0)
           ∙ ap (λ (ds : List DoneEvent). talliedOver ds (head .tally)) (sym passed)
-          ∙ head .inv .6,
-      λ l j w. head .inv .7 l j
+          ∙ head .inv .7,
+      λ l j w. head .inv .8 l j
           (wrote-same (ap (toldLines (given .told)) (sym passed))
           (turn-told part _ _ before (test .if1 .taken) there (ended .ensures .0) (given .told) (omega (arith, head .inv .3, start .good)) (ended .ensures .1 .1) w)),
     )
@@ -100,9 +106,10 @@ loop-again-2 c =
       head .inv .2,
       head .inv .3,
       head .inv .4,
-      sym (scan .leaves _) ∙ head .inv .5,
-      ap (λ (ds : List DoneEvent). talliedOver ds (head .tally)) (sym done) ∙ head .inv .6,
-      λ l j w. head .inv .7 l j (wrote-same (ap (toldLines (given .told)) (sym done)) w),
+      record { fit = head .inv .5 .fit; line-allowed = scan .line-allowed (head .inv .5 .line-allowed) },
+      sym (scan .leaves _) ∙ head .inv .6,
+      ap (λ (ds : List DoneEvent). talliedOver ds (head .tally)) (sym done) ∙ head .inv .7,
+      λ l j w. head .inv .8 l j (wrote-same (ap (toldLines (given .told)) (sym done)) w),
     )
 
 same-length : tie.Need-same-length Inv-loop μ-loop
@@ -121,8 +128,8 @@ returns c =
     let part = given .part .now in
     let last = playing (head .line) (state (head .chip) (head .memory) (head .writers) (head .count)) in
     let none = none-in-end part (head .at) last (omega arith) in (
-      sym (feed-ends part (head .at) _ (omega arith)) ∙ head .inv .5,
-      (none-tallied (head .tally) none ∙ head .inv .6, head .inv .7 _ _ (none-told (given .told) _ _ (head .inv .4) none)),
+      sym (feed-ends part (head .at) _ (omega arith)) ∙ head .inv .6,
+      (none-tallied (head .tally) none ∙ head .inv .7, head .inv .8 _ _ (none-told (given .told) _ _ (head .inv .4) none)),
     )
 
 pub follow-bytes-spec : {M : Type 1} → statement M

@@ -1,6 +1,6 @@
 use Rattle.capture.proofs.CodeWays.{ended-known}
 use mathlib.Core.Path.{refl}
-use Rattle.capture.specs.Feeding.{endedLine}
+use Rattle.capture.specs.Feeding.{endedLine, endedPastEntry}
 use borrow.Author.Needs.{needs}
 use Rattle.capture.proofs.play.end_line.Statement.{statement}
 use Rattle.capture.proofs.play.end_line.Tie as tie
@@ -36,20 +36,20 @@ enum-told-4 : tie.Need-enum-told-4
 enum-told-4 c = search needs
 
 returns : tie.Need-returns
-unfolding endedLine
+unfolding endedPastEntry endedLine
 returns c = ended-known _ _ (c .enum-told .given .1) _ _ refl
 
 same-length : tie.Need-same-length
 same-length c = search needs
 
 returns-2 : tie.Need-returns-2
-unfolding endedLine
+unfolding endedPastEntry endedLine
 returns-2 c =
     let reset = c .before .before .before in
     ended-known _ _ (reset .before .before .line .given .1) _ _ (simp (c .with-pixels .ensures, c .before .of-memory .ensures, reset .reset .ensures))
 
 returns-3 : tie.Need-returns-3
-unfolding endedLine
+unfolding endedPastEntry endedLine
 returns-3 c = ended-known _ _ (c .enum-told2 .given .1) _ _ refl
 
 same-length-2 : tie.Need-same-length-2
@@ -59,16 +59,16 @@ same-length-3 : tie.Need-same-length-3
 same-length-3 c = search needs
 
 returns-4 : tie.Need-returns-4
-unfolding endedLine
+unfolding endedPastEntry endedLine
 returns-4 c = let played = c .before .before .before .before in
     ended-known _ _ (played .before .before .before .before .line2 .given .1) _ _ (played .play .ensures)
 
 returns-5 : tie.Need-returns-5
-unfolding endedLine
+unfolding endedPastEntry endedLine
 returns-5 c = ended-known _ _ (c .enum-told3 .given .1) _ _ refl
 
 returns-6 : tie.Need-returns-6
-unfolding endedLine
+unfolding endedPastEntry endedLine
 returns-6 c = ended-known _ _ (c .enum-told4 .given .1) _ _ refl
 
 pub end-line-spec : {M : Type 1} → statement M

@@ -1,6 +1,7 @@
 use Rattle.registers.specs.State.{state}
 use Rattle.capture_lines.specs.declared.LineSoFar.the-variants.{Number}
 use mathlib.Core.Path.{_∙_}
+use Rattle.capture.proofs.CodeWays.{same-ended}
 use Rattle.capture_trace.proofs.CodeWays.{end-known, no-event, none-tallied, passed-told}
 use borrow.Author.Needs.{needs}
 use Rattle.capture_trace.proofs.event.end_line.Statement.{statement}
@@ -20,10 +21,14 @@ same-length-2 c = search needs
 
 returns : tie.Need-returns
 returns c =
-    let given = c .before .before .before .before .before .before .before .before .before .before .before in
-    let none = no-event (given .args .course .line) (state (given .args .course .chip) (given .args .memory .now) (given .args .writers .now) (given .args .course .count)) (c .before .before .before .before .before .before .before .match .keys2) in
-    let pass = c .before .before .before .before .pass .ensures in
-    (pass .0, (pass .1 .0 ∙ none-tallied _ none, passed-told (given .args .told) _ _ (search needs) none (pass .1 .1)))
+    let start = c .before .before .before .before .before .before .before .before .before .before .before in
+    let given = start .args in
+    let before = state (given .course .chip) (given .memory .now) (given .writers .now) (given .course .count) in
+    let none = no-event (given .course .line) before (c .before .before .before .before .before .before .before .match .keys2) in
+    let pass = c .before .before .before .before .pass .ensures in (
+      pass .0 ∙ same-ended (given .course .line) before (start .pre),
+      (pass .1 .0 ∙ none-tallied _ none, passed-told (given .told) _ _ (search needs) none (pass .1 .1)),
+    )
 
 play-requires : tie.Need-play-requires
 play-requires c κs = search needs

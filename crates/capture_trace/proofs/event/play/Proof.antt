@@ -1,4 +1,6 @@
 use native.Mathlib.Omega.{arith}
+use mathlib.Core.Path.{_∙_}
+use Rattle.chip.proofs.Laws.{step-past-entry}
 use Rattle.capture_trace.proofs.CodeWays.{not-counted, is-counted, none-tallied, none-told, one-tallied, one-told}
 use borrow.Author.Needs.{needs}
 use Rattle.capture_trace.proofs.event.play.Statement.{statement}
@@ -16,7 +18,8 @@ same-length-2 c = search needs
 returns : tie.Need-returns
 returns c =
     let start = c .before .before .before .before .before .before .before .before .before .before .before .before .before .before .before in
-    let came = not-counted _ _ _ (c .before .before .before .before .before .before .before .step .ensures) (c .if1 .taken) in
+    let step = c .before .before .before .before .before .before .before .step .ensures in
+    let came = not-counted _ _ _ (step ∙ step-past-entry _ _ (start .pre)) (c .if1 .taken) in
     (came .0, (none-tallied (start .args .course .tally) (came .1), none-told (start .args .told) _ _ (omega (arith, start .good)) (came .1)))
 
 tell-requires : tie.Need-tell-requires
@@ -36,8 +39,9 @@ same-length-5 c = search needs
 
 returns-2 : tie.Need-returns-2
 returns-2 c =
-    let given = c .before .before .before .before .before .before .before .before .before .before .before .before .before .before .before .before .before .before .before .before .args in
-    let step = c .before .before .before .before .before .before .before .before .before .before .before .before .step .ensures in
+    let start = c .before .before .before .before .before .before .before .before .before .before .before .before .before .before .before .before .before .before .before .before in
+    let given = start .args in
+    let step = c .before .before .before .before .before .before .before .before .before .before .before .before .step .ensures ∙ step-past-entry _ _ (start .pre) in
     let came = is-counted _ _ _ step (c .before .before .before .before .before .if1 .left) in (
       came .0,
       (one-tallied _ _ _ step (came .1) (given .course .tally) _ (c .with .ensures), one-told _ _ _ step (came .1) (given .told) (c .before .before .before .tell .ensures)),
