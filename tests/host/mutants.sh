@@ -134,6 +134,17 @@ mutant 'run takes its first event only' 's/i < events_len;/i < events_len \&\& i
 mutant 'empty run looks at nothing' 's/^    \*out_of_range = 0;/& if (events_len == 0) return 0;/'
 mutant 'refused event counted as done' 's/\*done = i;/*done = i + (refusal != 0);/'
 mutant 'done not set at entry' 's/^    \*done = 0;//'
+in_run='/^uint64_t model_run(/,/^}/'
+mutant 'run: record looked at where there are no events alone' \
+    "$in_run s/if (!load(&chip, record, record_len))/if (!load(\\&chip, record, record_len) \\&\\& events_len == 0)/"
+mutant 'run: memories looked at where there are no events alone' \
+    "$in_run s/if (\(memory_len != .*PLACES\))/if (events_len == 0 \\&\\& (\1))/"
+mutant 'run: its first event looked at before the record' \
+    "$in_run s/if (!load(/if (events_len > 0 \\&\\& !model_listed(events[0])) return BAD_EVENT; &/"
+mutant 'run: events looked at by their numbers at entry alone' \
+    "$in_run s/uint64_t result = /if (i > 0 \\&\\& !model_listed(events[i])) continue; &/"
+mutant 'run: count looked at at entry alone' \
+    "$in_run s/uint64_t result = /if (i > 0 \\&\\& chip.count == UINT64_MAX) chip.count = 0; &/"
 mutant 'earlier events lost at a refusal' \
     '/break;/,$ s/^    store(/    if (refusal == 0) store(/'
 
