@@ -21,11 +21,12 @@ use Rattle.capture_lines.specs.declared.LineSoFar.the-variants.{First, Pins, Em
 use Rattle.capture.specs.declared.Capture.{Capture}
 use Rattle.capture.specs.declared.End.the-variants as ends
 use Rattle.capture.specs.Cells.{zeros, start, CellAfter}
-use Rattle.capture.specs.Feeding.{Playing, kept, startOf, captureAllowed, partRefusal, PartFed, fed, feedOf}
+use Rattle.capture.specs.Feeding.{Playing, kept, startOf, endedLine, endedPastEntry, captureAllowed, partRefusal, PartFed, fed, feedOf}
 use Rattle.capture.specs.Feeding.{thenFed, feedParts, allParts, isOver, endOf, endUnless, finishOf, meaning}
 use Rattle.capture.specs.Reading.{captureText}
 use Rattle.capture.specs.Replay.{Replay, refusedBy, refusedAt, replayed, leftBy, started, replayBy, replayOf}
 use Rattle.capture.specs.Where.{Lent, PartWhen, Small, Replayed, NoFirstLine, StoppedAfter}
+use Rattle.capture.proofs.CodeWays.{same-ended}
 use Rattle.capture.proofs.Courses.{Ended, all-replayed, refused-first, refused-after, ended}
 use Rattle.capture.proofs.Feeds.{feed-refused, feed-passed, feed-append, feed-over, fedResult, text-replayed, fed-end}
 use Rattle.capture.proofs.Refusals.{by-lent, replay-not-lent, part-refusal-when, part-when, none-refused}
@@ -44,7 +45,11 @@ part-refused-exactly part p k = (λ e. subst (λ (n : ℕ). PartWhen p n) (sym n
         go zero e = ap (λ (f : PartFed). f .refusal) (feed-passed part p (none-refused p e)) ∙ sym e
         go (suc n) e = ap (λ (f : PartFed). f .refusal) (feed-refused part p n e) ∙ sym e
 
--- and then nothing is changed
+-- past the entry, where 1 and 2 let the state pass, a line ends as it does with every test
+pub ends-past-entry : (l : LineSoFar) (s : State) → Fit s → endedPastEntry l s ≡ endedLine l s
+ends-past-entry l s fit = same-ended l s fit
+
+-- a part that is refused changes nothing
 pub refused-part-unchanged : (part : List ℕ) (p : Playing) → (feedOf part p .refusal ≡ 0 → ⊥) → feedOf part p .after ≡ p
 refused-part-unchanged part p n = go (partRefusal p) refl
   where

@@ -3,7 +3,7 @@ use lib.Dec.{T}
 use Rattle.cases_proved.specs.Cited.{allowed, rowAt, commandOf, answerTo, storedOf, placeOf, nextAddress, refusalOf, applied, accepted, stepOf, runOf}
 use Rattle.cases_proved.specs.Cited.{pixelRefusal, pixelsFit, pixelsAfter, mendable, mended, shown, pixelTally}
 use Rattle.cases_proved.specs.Cited.{entryRefusal, eventRefusal, isAddressed, phaseAfterAddress, phaseAfterLastRead, acknowledge}
-use Rattle.cases_proved.specs.Cited.{isAcknowledged, controlled, readByte, pulsed, sensed, columnOf, runFrom, lastAnswer, tally}
+use Rattle.cases_proved.specs.Cited.{isAcknowledged, controlled, readByte, pulsed, sensed, columnOf, runFrom, tally}
 use Rattle.cases_proved.specs.Behaviour.{chip}
 use Rattle.cases_proved.specs.Chips.{busEvents, commandBytes, commandAnswers, displayData, refusalsAndRuns, chipRows}
 use Rattle.cases_proved.specs.Pixels.{pixelCounts}
@@ -15,7 +15,7 @@ use Rattle.cases_proved.proofs.Table.{each-row}
 all-pass : T (eachPasses (passes chip) chipRows)
 unfolding chip chipRows busEvents commandBytes commandAnswers displayData pixelCounts refusalsAndRuns
     stepOf refusalOf accepted applied allowed commandOf answerTo rowAt storedOf placeOf nextAddress runOf
-    entryRefusal eventRefusal pixelRefusal pixelsFit pixelsAfter mendable mended shown pixelTally isAddressed phaseAfterAddress phaseAfterLastRead acknowledge isAcknowledged controlled readByte pulsed sensed columnOf runFrom lastAnswer tally
+    entryRefusal eventRefusal pixelRefusal pixelsFit pixelsAfter mendable mended shown pixelTally isAddressed phaseAfterAddress phaseAfterLastRead acknowledge isAcknowledged controlled readByte pulsed sensed columnOf runFrom tally
 all-pass = tt
 
 pub wrong-chips : EachRow (Distinguishes chip) chipRows

@@ -2,20 +2,19 @@
 use mathlib.Core.Bool.{cond}
 use mathlib.Core.List.{List, [], _∷_}
 use Prim.Native.Nat.{ℕ, _+_, _*_}
-use Rattle.cases_proved.specs.Cited.{getD, values, countFor, State, Answer, After, answerNumber, stepOf, Outcome, runOf, lastAnswer, tally, Unknown, OutOfRange}
+use Rattle.cases_proved.specs.Cited.{getD, values, countFor, State, After, answerNumber, stepOf, Outcome, runOf, tally, Unknown, OutOfRange}
 
 -- ---- a chip, and what can be seen of it
 
--- what one event does, what a run does, how its last event is answered, and how many of its commands were unknown and out of range
+-- what one event does, what a run does, and how many of its commands were unknown and out of range
 pub record Behaviour : Type 0 where
   pub step : ℕ → State → After
   pub run : List ℕ → State → Outcome
-  pub last : List ℕ → State → Answer
   pub unknown : List ℕ → State → ℕ
   pub out-of-range : List ℕ → State → ℕ
 
 unfoldable pub chip : Behaviour
-chip = record { step = stepOf; run = runOf; last = lastAnswer; unknown = tally Unknown; out-of-range = tally OutOfRange }
+chip = record { step = stepOf; run = runOf; unknown = tally Unknown; out-of-range = tally OutOfRange }
 
 abbrev pub register : ℕ → State → ℕ
 register f s = getD (values (s .chip .registers)) f 0
@@ -62,10 +61,6 @@ runDone s es b = b .run es s .done
 
 abbrev pub runRefusal : State → List ℕ → Behaviour → ℕ
 runRefusal s es b = b .run es s .refusal
-
--- the answer to the last event that was tried, as a number
-abbrev pub runAnswer : State → List ℕ → Behaviour → ℕ
-runAnswer s es b = answerNumber (b .last es s)
 
 -- what it counts
 abbrev pub runUnknown : State → List ℕ → Behaviour → ℕ

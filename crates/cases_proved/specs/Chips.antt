@@ -4,7 +4,7 @@ use mathlib.Core.List.{List, [], _∷_, _++_}
 use Prim.Native.Nat.{_+_, _-_, _^_}
 use Rattle.cases_proved.specs.Cited.{H, DO, PD, «V», D, MX, X, Y, SM, GR, GS0, GS2, GS3, DOF, EC}
 use Rattle.cases_proved.specs.Behaviour.{Behaviour, register, count, status, lastRs, cell, writer, leave, answer, runLeaves, runDone}
-use Rattle.cases_proved.specs.Behaviour.{runRefusal, runAnswer, runUnknown, runOutOfRange, commandTaken, commandUnknown, commandOutOfRange}
+use Rattle.cases_proved.specs.Behaviour.{runRefusal, runUnknown, runOutOfRange, commandTaken, commandUnknown, commandOutOfRange}
 use Rattle.cases_proved.specs.Behaviour.{START, STOP, READ, READLAST, RESET, sensor, nothing, acknowledged, notAcknowledged, byteRead, commands}
 use Rattle.cases_proved.specs.Behaviour.{displayBytes}
 use Rattle.cases_proved.specs.Observed.{Observation, _gives_not_}
@@ -258,18 +258,16 @@ refusalsAndRuns =
     -- 1 and 2 not tested where there are no events
     ∷ runRefusal (lent 1717 1716 (upon [])) [] gives 1 not 0
     ∷ runRefusal (upon (X is 101 ∷ [])) [] gives 2 not 0
-    -- not tested at entry where there are some, and an event looked at before them
+    -- not tested at entry where there are some, so that an event is done, and an event looked at before them
     ∷ runRefusal (lent 1716 1717 (upon [])) (START ∷ []) gives 1 not 0
     ∷ runRefusal (upon (X is 101 ∷ [])) (START ∷ []) gives 2 not 0
+    ∷ runLeaves (lent 1716 1717 (upon [])) (START ∷ []) count gives 0 not 1
     ∷ runLeaves (upon (X is 101 ∷ [])) (START ∷ []) count gives 0 not 1
+    ∷ runRefusal (lent 1716 1717 (upon [])) (261 ∷ []) gives 1 not 3
     ∷ runRefusal (upon (X is 101 ∷ [])) (261 ∷ []) gives 2 not 3
     -- 4 at the wrong event
     ∷ runDone (counting (2 ^ 64 - 2) (upon [])) (START ∷ STOP ∷ []) gives 1 not 0
     ∷ runRefusal (counting (2 ^ 64 - 2) (upon [])) (START ∷ STOP ∷ []) gives 4 not 0
-    -- the answer to an earlier event, to a refused one, at a refused entry
-    ∷ runAnswer (upon []) (START ∷ 0x78 ∷ []) gives acknowledged not nothing
-    ∷ runAnswer (upon []) (START ∷ 261 ∷ 0x78 ∷ []) gives 3 not nothing
-    ∷ runAnswer (upon (X is 101 ∷ [])) [] gives 2 not nothing
     ∷ []
 
 -- all of them

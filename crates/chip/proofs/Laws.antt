@@ -35,7 +35,7 @@ use Rattle.chip.specs.Phases.{awaitsData, awaitsCommand, ignoresBytes, p
 use Rattle.chip.specs.Promised.{CommandAnswer, Taken, Refused, Nothing, Acknowledged, NotAcknowledged, Command, Read, After, nothingStored, Fit, entryRefusal, refusalOf, isAddressed}
 use Rattle.chip.specs.Promised.{acknowledge, phaseAfterAddress, controlled, phaseAfterLastRead, pulsed, sensed, commandOf, answerTo, CommandWhen, countUnless, tally}
 use Rattle.chip.specs.Promised.{storedOf, placeOf, shown, TrueCounts}
-use Rattle.chip.specs.Promised.{stepPastEntry, runPastEntry, tallyPastEntry}
+use Rattle.chip.specs.Promised.{PastEntryNumber, stepPastEntry, runPastEntry, tallyPastEntry}
 use Rattle.chip.specs.Runs.{continued, StepByStep, tallyOver}
 use Rattle.chip.specs.When.{ComesAsData, When, none, not-long, not-allowed, not-listed, count-full, goes-out}
 use Rattle.chip.proofs.Events.{by-phase, in-known-phase, command-at, display-step, ignored-at, answered-command, same-command}
@@ -279,15 +279,19 @@ run-tallies-append a xs ys s = go (entryRefusal s) refl
         let none : (es : List ℕ) → 0 ≡ tally a es s = λ es. tally-refused a es s (suc k) (sym q) (suc-ne-zero k) in
         omega (arith, none (xs ++ ys), none xs)
 
--- 1 and 2 are tested at entry, and need not be tested again: from there on 3, 4 and 16 alone refuse an event, and the run is the same for every input,
--- also with no events and with a record that is not allowed (document 02, W9)
+-- 1 and 2 are tested at entry, and not again: a run is what its entry refuses, or what comes past it, for every input, also with no events and with a
+-- record that is not allowed (document 02, W9)
 pub tested-at-entry : (es : List ℕ) (s : State) → runOf es s ≡ unlessStopped (entryRefusal s) 0 s (runPastEntry 0 es s)
 tested-at-entry es s = PastEntry.tested-at-entry es s
 
 pub tallied-from-entry : (a : CommandAnswer) (es : List ℕ) (s : State) → tally a es s ≡ countUnless (entryRefusal s) (tallyPastEntry a es s)
 tallied-from-entry a es s = PastEntry.tallied-from-entry es s a
 
--- whoever has tested them can go on past the entry
+-- past the entry 3, 4 and 16 alone refuse an event, whatever the record
+pub past-entry-refusals : (es : List ℕ) (s : State) → PastEntryNumber (runPastEntry 0 es s .refusal)
+past-entry-refusals es s = PastEntry.run-past-entry-number 0 es s
+
+-- whoever has tested 1 and 2 can go on past the entry
 pub step-past-entry : (e : ℕ) (s : State) → Fit s → stepPastEntry e s ≡ stepOf e s
 step-past-entry e s fit = PastEntry.same-step e s fit
 

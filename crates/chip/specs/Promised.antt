@@ -8,7 +8,7 @@ pub use Rattle.engine.specs.Step.{After, after, nothingStored, Fit, entryRefusa
 pub use Rattle.engine.specs.Step.{counted, acknowledge}
 pub use Rattle.phases.specs.Changes.{controlled, readByte, pulsed, sensed}
 pub use Rattle.phases.specs.Phases.{isAddressed, phaseAfterAddress, phaseAfterLastRead}
-pub use Rattle.engine.specs.PastEntry.{stepPastEntry, runPastEntry, tallyPastEntry}
+pub use Rattle.engine.specs.PastEntry.{PastEntryNumber, stepPastEntry, runPastEntry, tallyPastEntry}
 pub use Rattle.engine.specs.Run.{Outcome, outcome, runFrom, runOf, countUnless, tally}
 pub use Rattle.commands.specs.Command.{commandOf, answerTo, commandNumber}
 pub use Rattle.commands.specs.When.{CommandWhen}

@@ -25,14 +25,13 @@ use Rattle.engine.specs.declared.answer.Answer.{Answer}
 use Rattle.engine.specs.declared.answer.Answer.the-variants.{Refused, Nothing, Acknowledged, Command}
 use Rattle.engine.specs.declared.event.Event.{Event}
 use Rattle.engine.specs.Event.{eventOf, isByte, countsAs}
-use Rattle.engine.specs.PastEntry.{refusalPastEntry, stepPastEntry, runPastEntry, tallyPastEntry, answerPastEntry}
-use Rattle.engine.specs.Run.{Outcome, outcome, runFrom, runOf, unlessStopped, countUnless, tally, answerUnless, lastAnswer}
+use Rattle.engine.specs.PastEntry.{refusalPastEntry, stepPastEntry, runPastEntry, tallyPastEntry, answerUnless, answerPastEntry}
+use Rattle.engine.specs.Run.{Outcome, outcome, runOf, unlessStopped, countUnless, tally}
 use Rattle.engine.specs.Step.{isDisplayByte, pixelsUpon, After, after, unmended, nothingStored, contentOf, onByte, applied, accepted}
-use Rattle.engine.specs.Step.{Fit, entryRefusal, eventRefusal, pixelRefusal, refusalOf, unlessRefused, stepOf}
+use Rattle.engine.specs.Step.{entryRefusal, eventRefusal, pixelRefusal, refusalOf, unlessRefused, stepOf}
 use Rattle.engine.proofs.Events.{byte-event, other-event}
 use Rattle.engine.proofs.PastEntry.{tested-at-entry, tallied-from-entry}
 use Rattle.engine.proofs.Pixels.{pixels-upon}
-use Rattle.engine.proofs.Refusals.{entry-fit}
 use Rattle.engine.proofs.Tallies.{counted-once}
 
 -- ---- a byte
@@ -272,9 +271,9 @@ step-of-run e s s′ n k a eo ea =
     rw (ea, ap (λ (o : Outcome). o .state) eo) (one-event (entryRefusal s) (refusalPastEntry e s) (accepted e s) s)
 
 -- past the entry too
-pub step-past-entry :
+pub step-of-run-past-entry :
     (e : ℕ) (s s′ : State) (n k : ℕ) (a : Answer) → outcome n k s′ ≡ runPastEntry 0 (e ∷ []) s → a ≡ answerPastEntry (e ∷ []) s Nothing
     → record { answer = a; state = s′ } ≡ stepPastEntry e s
 unfolding runPastEntry stepPastEntry
-step-past-entry e s s′ n k a eo ea =
+step-of-run-past-entry e s s′ n k a eo ea =
     rw (ea, ap (λ (o : Outcome). o .state) eo) (one-event 0 (refusalPastEntry e s) (accepted e s) s)

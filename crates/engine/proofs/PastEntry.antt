@@ -1,16 +1,19 @@
 -- From what 1 and 2 let pass, a step and a run need not test them again: each accepted event leaves such a state.
+use mathlib.Core.Bool.{Bool, true, false, not, _&&_}
 use mathlib.Core.List.{List, [], _∷_}
+use mathlib.Core.Logic.{inl, inr}
 use mathlib.Core.Path.{_≡_, refl, sym, ap, ap₂}
-use Prim.Native.Nat.{ℕ, zero, suc, _+_}
+use Prim.Native.Nat.{ℕ, zero, suc, _+_, _-_, _^_}
 use native.Mathlib.Nat.{suc-ne-zero}
+use lib.Dec.{eqb}
+use Rattle.registers.specs.Refusals.{refuse, _then_, isListedEvent}
 use Rattle.registers.specs.State.{State}
 use Rattle.commands.specs.declared.answer.CommandAnswer.{CommandAnswer}
-use Rattle.engine.specs.declared.answer.Answer.{Answer}
-use Rattle.engine.specs.declared.answer.Answer.the-variants.{Nothing}
+use Rattle.display.specs.Display.{pixelsFit}
 use Rattle.engine.specs.Event.{countsAs}
-use Rattle.engine.specs.PastEntry.{refusalPastEntry, stepPastEntry, runPastEntry, tallyPastEntry, answerPastEntry}
-use Rattle.engine.specs.Run.{Outcome, unlessStopped, runFrom, runOf, countUnless, tally, answerUnless, answerFrom, lastAnswer}
-use Rattle.engine.specs.Step.{Fit, entryRefusal, refusalOf, accepted, unlessRefused, stepOf}
+use Rattle.engine.specs.PastEntry.{refusalPastEntry, PastEntryNumber, stepPastEntry, runPastEntry, tallyPastEntry}
+use Rattle.engine.specs.Run.{Outcome, unlessStopped, runFrom, runOf, countUnless, tally}
+use Rattle.engine.specs.Step.{Fit, entryRefusal, eventRefusal, isDisplayByte, pixelRefusal, refusalOf, accepted, unlessRefused, stepOf}
 use Rattle.engine.proofs.Allowed.{accepted-fit}
 use Rattle.engine.proofs.Refusals.{entry-fit, fit-entry}
 use Rattle.engine.proofs.Tallies.{tally-refused}
@@ -18,6 +21,28 @@ use Rattle.engine.proofs.Tallies.{tally-refused}
 pub same-refusal : (e : ℕ) (s : State) → Fit s → refusalPastEntry e s ≡ refusalOf e s
 unfolding refusalOf refusalPastEntry
 same-refusal e s fit = rw (fit-entry s fit)
+
+-- 1 and 2 are not among the numbers by which it refuses, from any state
+pub past-entry-number : (e : ℕ) (s : State) → PastEntryNumber (refusalPastEntry e s)
+unfolding refusalPastEntry eventRefusal pixelRefusal
+past-entry-number e s =
+    go (not (isListedEvent e)) (eqb (s .count) (2 ^ 64 - 1))
+    (isDisplayByte e (s .chip .phase) && not (pixelsFit (s .chip .registers) (s .chip .pixels) (s .memory) e))
+  where
+    go : (unlisted full out : Bool) → PastEntryNumber ((refuse unlisted 3 then refuse full 4) then refuse out 16)
+    go true full out = inr (inl refl)
+    go false true out = inr (inr (inl refl))
+    go false false true = inr (inr (inr refl))
+    go false false false = inl refl
+
+pub run-past-entry-number : (n : ℕ) (es : List ℕ) (s : State) → PastEntryNumber (runPastEntry n es s .refusal)
+unfolding runPastEntry
+run-past-entry-number n [] s = inl refl
+run-past-entry-number n (e ∷ es) s = go (refusalPastEntry e s) (past-entry-number e s) _ (run-past-entry-number (n + 1) es (accepted e s .state))
+  where
+    go : (k : ℕ) → PastEntryNumber k → (rest : Outcome) → PastEntryNumber (rest .refusal) → PastEntryNumber (unlessStopped k n s rest .refusal)
+    go zero one rest later = later
+    go (suc k) one rest later = one
 
 pub same-step : (e : ℕ) (s : State) → Fit s → stepPastEntry e s ≡ stepOf e s
 unfolding stepPastEntry stepOf
@@ -37,11 +62,6 @@ same-tally k (e ∷ es) s fit =
     ap₂ (λ (x rest : ℕ). countUnless x (countsAs k (accepted e s .answer) + rest)) (same-refusal e s fit)
     (same-tally k es (accepted e s .state) (accepted-fit e s fit))
 
-pub same-answer : (es : List ℕ) (s : State) (a : Answer) → Fit s → answerPastEntry es s a ≡ answerFrom es s a
-same-answer [] s a fit = refl
-same-answer (e ∷ es) s a fit =
-    ap₂ answerUnless (same-refusal e s fit) (same-answer es (accepted e s .state) (accepted e s .answer) (accepted-fit e s fit))
-
 -- ---- with the entry: what it refuses, or what comes past it
 
 module _ (es : List ℕ) (s : State) where
@@ -59,11 +79,3 @@ module _ (es : List ℕ) (s : State) where
       go : (k : ℕ) → entryRefusal s ≡ k → tally b es s ≡ countUnless k (tallyPastEntry b es s)
       go zero q = sym (same-tally b es s (entry-fit s q))
       go (suc k) q = sym (tally-refused b es s (suc k) (sym q) (suc-ne-zero k))
-
-  pub answered-from-entry : lastAnswer es s ≡ answerUnless (entryRefusal s) (answerPastEntry es s Nothing)
-  unfolding lastAnswer
-  answered-from-entry = go (entryRefusal s) refl
-    where
-      go : (k : ℕ) → entryRefusal s ≡ k → answerUnless k (answerFrom es s Nothing) ≡ answerUnless k (answerPastEntry es s Nothing)
-      go zero q = sym (same-answer es s Nothing (entry-fit s q))
-      go (suc k) q = refl

@@ -5,7 +5,7 @@ use Prim.Native.Nat.{ℕ, _-_, _^_}
 use borrow.Author.Tests.{eqb-true, eqb-false, eq-eqb, not-false}
 use lib.Dec.{eqb}
 use lib.ListN.{length}
-use Rattle.registers.specs.Refusals.{refuse, _then_, recordRefusal, isListedEvent}
+use Rattle.registers.specs.Refusals.{refuse, recordRefusal, isListedEvent}
 use Rattle.registers.specs.State.{State, places}
 use Rattle.registers.proofs.Refusals.{then-zero, refuse-none, or-none}
 use Rattle.engine.specs.PastEntry.{refusalPastEntry}
@@ -35,25 +35,21 @@ pub fit-entry : (s : State) → Fit s → entryRefusal s ≡ 0
 unfolding entryRefusal
 fit-entry s fit = simp (eq-eqb _ _ (fit .memory-long), eq-eqb _ _ (fit .writers-long), fit .is-allowed)
 
--- an event that is not refused past the entry
-record Onward (e : ℕ) (s : State) : Type 0 where
-  pub listed : isListedEvent e ≡ true
-  pub room : s .count ≡ 2 ^ 64 - 1 → ⊥
-  pub pixels : pixelRefusal e (s .chip) (s .memory) ≡ 0
-
-onward : (e : ℕ) (s : State) → refusalPastEntry e s ≡ 0 → Onward e s
-unfolding refusalPastEntry eventRefusal
-onward e s h =
-    let parts = then-zero (eventRefusal e (s .count)) (pixelRefusal e (s .chip) (s .memory)) h in
-    let event = then-zero (refuse (not (isListedEvent e)) 3) (refuse (eqb (s .count) (2 ^ 64 - 1)) 4) (parts .0) in
-    record { listed = not-false _ (refuse-none _ 2 (event .0)); room = eqb-false _ _ (refuse-none _ 3 (event .1)); pixels = parts .1 }
-
+-- past the entry: the count is not full
 pub room-left : (e : ℕ) (s : State) → refusalPastEntry e s ≡ 0 → s .count ≡ 2 ^ 64 - 1 → ⊥
-room-left e s h = onward e s h .room
+unfolding refusalPastEntry eventRefusal
+room-left e s h =
+    let event = then-zero (eventRefusal e (s .count)) (pixelRefusal e (s .chip) (s .memory)) h .0 in
+    eqb-false _ _ (refuse-none _ 3 (then-zero (refuse (not (isListedEvent e)) 3) (refuse (eqb (s .count) (2 ^ 64 - 1)) 4) event .1))
 
 pub accepts : (e : ℕ) (s : State) → refusalOf e s ≡ 0 → Accepts e s
-unfolding refusalOf refusalPastEntry
+unfolding refusalOf refusalPastEntry eventRefusal
 accepts e s h =
-    let parts = then-zero (entryRefusal s) (refusalPastEntry e s) h in
-    let rest = onward e s (parts .1) in
-    record { fit = entry-fit s (parts .0); listed = rest .listed; room = rest .room; pixels = rest .pixels }
+    let first = then-zero (entryRefusal s) (refusalPastEntry e s) h in
+    let second = then-zero (eventRefusal e (s .count)) (pixelRefusal e (s .chip) (s .memory)) (first .1) in
+    record {
+      fit = entry-fit s (first .0);
+      listed = not-false _ (refuse-none _ 2 (then-zero (refuse (not (isListedEvent e)) 3) (refuse (eqb (s .count) (2 ^ 64 - 1)) 4) (second .0) .0));
+      room = room-left e s (first .1);
+      pixels = second .1;
+    }

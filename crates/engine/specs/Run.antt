@@ -2,8 +2,6 @@
 use mathlib.Core.List.{List, [], _∷_}
 use Prim.Native.Nat.{ℕ, zero, suc, _+_}
 use Rattle.registers.specs.State.{State}
-use Rattle.engine.specs.declared.answer.Answer.{Answer}
-use Rattle.engine.specs.declared.answer.Answer.the-variants.{Refused, Nothing}
 use Rattle.commands.specs.declared.answer.CommandAnswer.{CommandAnswer}
 use Rattle.engine.specs.Event.{countsAs}
 use Rattle.engine.specs.Step.{entryRefusal, refusalOf, accepted}
@@ -40,17 +38,3 @@ countUnless (suc k) n = 0
 unfoldable pub tally : CommandAnswer → List ℕ → State → ℕ
 tally k [] s = 0
 tally k (e ∷ es) s = countUnless (refusalOf e s) (countsAs k (accepted e s .answer) + tally k es (accepted e s .state))
-
--- ---- the answer to the last event that was tried, a refused one's too
-
-abbrev pub answerUnless : ℕ → Answer → Answer
-answerUnless zero a = a
-answerUnless (suc k) a = Refused (suc k)
-
--- the events that are left, a being the answer to the one before
-abbrev pub answerFrom : List ℕ → State → Answer → Answer
-answerFrom [] s a = a
-answerFrom (e ∷ es) s a = answerUnless (refusalOf e s) (answerFrom es (accepted e s .state) (accepted e s .answer))
-
-unfoldable pub lastAnswer : List ℕ → State → Answer
-lastAnswer es s = answerUnless (entryRefusal s) (answerFrom es s Nothing)

@@ -3,8 +3,8 @@ ghost use mathlib.Core.Path.{_≡_};
 ghost use Rattle.registers.specs.State.{state};
 ghost use Rattle.commands.specs.declared.answer.CommandAnswer.the-variants.{Unknown, OutOfRange};
 ghost use Rattle.engine.specs.declared.answer.Answer.the-variants.{Nothing};
-ghost use Rattle.engine.specs.PastEntry.{entryUnless, runPastEntry, tallyPastEntry, answerPastEntry};
-ghost use Rattle.engine.specs.Run.{outcome, unlessStopped, countUnless, answerUnless};
+ghost use Rattle.engine.specs.PastEntry.{runPastEntry, tallyPastEntry, answerPastEntry, runFromEntry, tallyFromEntry, answerFromEntry};
+ghost use Rattle.engine.specs.Run.{outcome};
 use crate::answer::Answer;
 use commands::answer::CommandAnswer;
 use registers::Chip;
@@ -87,10 +87,10 @@ pub fn perform(
     events: &[u16],
 ) -> Performed
     ensures { λ r. ⌜ outcome (r .done) (r .refusal) (state (r .chip) (now (memory .exit)) (now (writers .exit)) (r .count))
-        ≡ unlessStopped (entryUnless tested (state chip (now (memory .entry)) (now (writers .entry)) count)) 0 (state chip (now (memory .entry)) (now (writers .entry)) count) (runPastEntry 0 (now (events .entry)) (state chip (now (memory .entry)) (now (writers .entry)) count)) ⌝ }
-    ensures { λ r. ⌜ r .unknown ≡ countUnless (entryUnless tested (state chip (now (memory .entry)) (now (writers .entry)) count)) (tallyPastEntry Unknown (now (events .entry)) (state chip (now (memory .entry)) (now (writers .entry)) count)) ⌝ }
-    ensures { λ r. ⌜ r .«out_of_range» ≡ countUnless (entryUnless tested (state chip (now (memory .entry)) (now (writers .entry)) count)) (tallyPastEntry OutOfRange (now (events .entry)) (state chip (now (memory .entry)) (now (writers .entry)) count)) ⌝ }
-    ensures { λ r. ⌜ r .answer ≡ answerUnless (entryUnless tested (state chip (now (memory .entry)) (now (writers .entry)) count)) (answerPastEntry (now (events .entry)) (state chip (now (memory .entry)) (now (writers .entry)) count) Nothing) ⌝ }
+        ≡ runFromEntry tested (now (events .entry)) (state chip (now (memory .entry)) (now (writers .entry)) count) ⌝ }
+    ensures { λ r. ⌜ r .unknown ≡ tallyFromEntry tested Unknown (now (events .entry)) (state chip (now (memory .entry)) (now (writers .entry)) count) ⌝ }
+    ensures { λ r. ⌜ r .«out_of_range» ≡ tallyFromEntry tested OutOfRange (now (events .entry)) (state chip (now (memory .entry)) (now (writers .entry)) count) ⌝ }
+    ensures { λ r. ⌜ r .answer ≡ answerFromEntry tested (now (events .entry)) (state chip (now (memory .entry)) (now (writers .entry)) count) ⌝ }
 {
     let entry = crate::refusal::at_entry(tested, chip, memory.len(), writers.len());
     if entry != 0 {

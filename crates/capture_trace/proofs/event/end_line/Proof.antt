@@ -1,7 +1,7 @@
 use Rattle.registers.specs.State.{state}
 use Rattle.capture_lines.specs.declared.LineSoFar.the-variants.{Number}
 use mathlib.Core.Path.{_∙_}
-use Rattle.capture.proofs.CodeWays.{same-ended}
+use Rattle.capture.proofs.Laws.{ends-past-entry}
 use Rattle.capture_trace.proofs.CodeWays.{end-known, no-event, none-tallied, passed-told}
 use borrow.Author.Needs.{needs}
 use Rattle.capture_trace.proofs.event.end_line.Statement.{statement}
@@ -26,7 +26,7 @@ returns c =
     let before = state (given .course .chip) (given .memory .now) (given .writers .now) (given .course .count) in
     let none = no-event (given .course .line) before (c .before .before .before .before .before .before .before .match .keys2) in
     let pass = c .before .before .before .before .pass .ensures in (
-      pass .0 ∙ same-ended (given .course .line) before (start .pre),
+      pass .0 ∙ ends-past-entry (given .course .line) before (start .pre),
       (pass .1 .0 ∙ none-tallied _ none, passed-told (given .told) _ _ (search needs) none (pass .1 .1)),
     )
 

@@ -1,4 +1,4 @@
-use Rattle.engine.proofs.CodeWays.{step-past-entry}
+use Rattle.engine.proofs.CodeWays.{step-of-run-past-entry}
 use borrow.Author.Needs.{needs}
 use Rattle.engine.proofs.past_entry.step.Statement.{statement}
 use Rattle.engine.proofs.past_entry.step.Tie as tie
@@ -18,7 +18,7 @@ same-length-2 c = search needs
 returns : tie.Need-returns
 returns c =
     let made = c .before .before .before .before .before .perform .ensures in
-    step-past-entry _ _ _ _ _ _ (made .0) (made .1 .1 .1)
+    step-of-run-past-entry _ _ _ _ _ _ (made .0) (made .1 .1 .1)
 
 pub step-spec : {M : Type 1} → statement M
 step-spec =
