@@ -3,8 +3,6 @@ use mathlib.Core.Bool.{Bool, true, false, cond, _&&_}
 use mathlib.Core.List.{List, [], _∷_, map}
 use mathlib.Core.Path.{_≡_, refl, sym, ap, _∙_}
 use Prim.Native.Nat.{ℕ, zero, suc, _+_}
-use Rattle.registers.specs.Refusals.{_then_}
-use Rattle.registers.proofs.Below.{and-true}
 use Rattle.engine.specs.declared.answer.Answer.{Answer}
 use Rattle.engine.specs.declared.answer.Answer.the-variants.{Refused, Nothing}
 use Rattle.engine.specs.Event.{eventOf}
@@ -12,8 +10,8 @@ use Rattle.engine.specs.PastEntry.{stepPastEntry}
 use Rattle.engine.specs.Step.{After}
 use Rattle.engine.proofs.PastEntry.{same-step}
 use Rattle.engine.proofs.Refusals.{accepts}
-use Rattle.bus.specs.Bus.{Device, Bus, bus, At, alone, every, hasOtherPins}
-use Rattle.bus.specs.Refusals.{isLong, devicesRefusalFor, devicesRefusal, isSensorReading, sentRefusal, countsFit, pixelsRefusalFor, busRefusal}
+use Rattle.bus.specs.Bus.{Device, Bus, bus, At, alone, hasOtherPins}
+use Rattle.bus.specs.Refusals.{isSensorReading, busRefusal}
 use Rattle.bus.specs.Step.{misses, heardBy, deviceAfter, unanswered, orElse, BusAfter, busAfter, busAccepted, unlessRefused, busStepOf}
 use Rattle.bus.proofs.Answers.{heard-as-alone}
 use Rattle.bus.proofs.Phases as Phases
@@ -75,39 +73,26 @@ unless-refused :
 unless-refused zero r a b e n = absurd (n e)
 unless-refused (suc x) r a b e n = ap (λ (y : ℕ). busAfter (Refused y) (b .devices) (b .count)) e
 
-module _
-    (e k n r : ℕ) (l0 l1 l2 l3 fit : Bool) (a b c d : Device)
-    (q0 : l0 ≡ isLong a) (q1 : l1 ≡ isLong b) (q2 : l2 ≡ isLong c) (q3 : l3 ≡ isLong d)
-    (fits : fit ≡ every (countsFit e) (a ∷ b ∷ c ∷ d ∷ []))
-    (told : r ≡ devicesRefusalFor (l0 && (l1 && (l2 && l3))) (a ∷ b ∷ c ∷ d ∷ []) then sentRefusal e k n then pixelsRefusalFor fit)
-  where
-    refusal-told : r ≡ busRefusal e k (bus (a ∷ b ∷ c ∷ d ∷ []) n)
-    unfolding busRefusal devicesRefusal
-    refusal-told =
-        let long : l0 && (l1 && (l2 && l3)) ≡ every isLong (a ∷ b ∷ c ∷ d ∷ []) = simp (q0, q1, q2, q3, and-true) in
-        told
-        ∙ ap (λ (t : Bool). devicesRefusalFor t (a ∷ b ∷ c ∷ d ∷ []) then sentRefusal e k n then pixelsRefusalFor fit) long
-        ∙ ap (λ (t : Bool). devicesRefusalFor (every isLong (a ∷ b ∷ c ∷ d ∷ [])) (a ∷ b ∷ c ∷ d ∷ []) then sentRefusal e k n then pixelsRefusalFor t) fits
+module _ (e k n r : ℕ) (a b c d : Device) (told : r ≡ busRefusal e k (bus (a ∷ b ∷ c ∷ d ∷ []) n)) where
+  pub step-refused : (r ≡ 0 → ⊥) → busAfter (Refused r) (a ∷ b ∷ c ∷ d ∷ []) n ≡ busStepOf e k (bus (a ∷ b ∷ c ∷ d ∷ []) n)
+  unfolding busStepOf
+  step-refused h =
+      let all = bus (a ∷ b ∷ c ∷ d ∷ []) n in
+      unless-refused (busRefusal e k all) r (busAccepted e k all) all told h
 
-    pub step-refused : (r ≡ 0 → ⊥) → busAfter (Refused r) (a ∷ b ∷ c ∷ d ∷ []) n ≡ busStepOf e k (bus (a ∷ b ∷ c ∷ d ∷ []) n)
-    unfolding busStepOf
-    step-refused h =
-        let all = bus (a ∷ b ∷ c ∷ d ∷ []) n in
-        unless-refused (busRefusal e k all) r (busAccepted e k all) all refusal-told h
-
-    pub step-accepted :
-        (ds : List Device) (x : Answer) → r ≡ 0 → ds ≡ map (deviceBy e k n) (a ∷ b ∷ c ∷ d ∷ []) → x ≡ answerBy e k n (a ∷ b ∷ c ∷ d ∷ [])
-        → busAfter x ds (n + 1) ≡ busStepOf e k (bus (a ∷ b ∷ c ∷ d ∷ []) n)
-    unfolding busStepOf busAccepted
-    step-accepted ds x z q t =
-        let all = bus (a ∷ b ∷ c ∷ d ∷ []) n in
-        let none : busRefusal e k all ≡ 0 = sym refusal-told ∙ z in
-        let at0 : partOf e k n a ≡ partIn (heardBy e k (n + 1) a) = part-heard e k all none 0 a refl in
-        let at1 : partOf e k n b ≡ partIn (heardBy e k (n + 1) b) = part-heard e k all none 1 b refl in
-        let at2 : partOf e k n c ≡ partIn (heardBy e k (n + 1) c) = part-heard e k all none 2 c refl in
-        let at3 : partOf e k n d ≡ partIn (heardBy e k (n + 1) d) = part-heard e k all none 3 d refl in
-        let device : Part → Device = λ p. p .device in
-        let answer : Part → Answer = λ p. p .answer in
-        let devices = same-devices (deviceBy e k n) (deviceAfter e k (n + 1)) a b c d (ap device at0) (ap device at1) (ap device at2) (ap device at3) in
-        let answers = same-answers (unanswered (eventOf e)) _ _ _ _ _ _ _ _ (ap answer at0) (ap answer at1) (ap answer at2) (ap answer at3) in
-        rw (none, q ∙ devices, t ∙ answers)
+  pub step-accepted :
+      (ds : List Device) (x : Answer) → r ≡ 0 → ds ≡ map (deviceBy e k n) (a ∷ b ∷ c ∷ d ∷ []) → x ≡ answerBy e k n (a ∷ b ∷ c ∷ d ∷ [])
+      → busAfter x ds (n + 1) ≡ busStepOf e k (bus (a ∷ b ∷ c ∷ d ∷ []) n)
+  unfolding busStepOf busAccepted
+  step-accepted ds x z q t =
+      let all = bus (a ∷ b ∷ c ∷ d ∷ []) n in
+      let none : busRefusal e k all ≡ 0 = sym told ∙ z in
+      let at0 : partOf e k n a ≡ partIn (heardBy e k (n + 1) a) = part-heard e k all none 0 a refl in
+      let at1 : partOf e k n b ≡ partIn (heardBy e k (n + 1) b) = part-heard e k all none 1 b refl in
+      let at2 : partOf e k n c ≡ partIn (heardBy e k (n + 1) c) = part-heard e k all none 2 c refl in
+      let at3 : partOf e k n d ≡ partIn (heardBy e k (n + 1) d) = part-heard e k all none 3 d refl in
+      let device : Part → Device = λ p. p .device in
+      let answer : Part → Answer = λ p. p .answer in
+      let devices = same-devices (deviceBy e k n) (deviceAfter e k (n + 1)) a b c d (ap device at0) (ap device at1) (ap device at2) (ap device at3) in
+      let answers = same-answers (unanswered (eventOf e)) _ _ _ _ _ _ _ _ (ap answer at0) (ap answer at1) (ap answer at2) (ap answer at3) in
+      rw (none, q ∙ devices, t ∙ answers)

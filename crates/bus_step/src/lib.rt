@@ -1,15 +1,12 @@
 // Four chips on one bus: an event reaches them all, and one count numbers the events.
 ghost use mathlib.Core.Path.{_≡_};
-ghost use mathlib.Core.List.{[], map};
-ghost use Rattle.bus.specs.Bus.{bus, every};
-ghost use Rattle.bus.specs.Refusals.{countsFit};
+ghost use mathlib.Core.List.{map};
+ghost use Rattle.bus.specs.Bus.{bus};
 ghost use Rattle.bus.specs.Step.{busAfter, busStepOf};
 ghost use Rattle.bus_refusals.specs.Four.{four};
 ghost use Rattle.bus_step.specs.Part.{deviceBy, answerBy};
 use bus_refusals::Chips;
-use bus_refusals::is_long;
 use engine::answer::Answer;
-use engine::fitting::counts_fit;
 
 mod device;
 
@@ -72,23 +69,6 @@ fn deliver(
     }
 }
 
-// Whether the event leaves every count of pixels of all four chips in its range.
-fn all_fit(
-    event: u16,
-    chips: Chips,
-    memory0: &[u8],
-    memory1: &[u8],
-    memory2: &[u8],
-    memory3: &[u8],
-) -> bool
-    ensures { λ r. ⌜ r ≡ every (countsFit event)
-        (four chips (now (memory0 .entry)) [] (now (memory1 .entry)) [] (now (memory2 .entry)) [] (now (memory3 .entry)) []) ⌝ }
-{
-    counts_fit(event, chips.chip0, memory0)
-        & (counts_fit(event, chips.chip1, memory1)
-            & (counts_fit(event, chips.chip2, memory2) & counts_fit(event, chips.chip3, memory3)))
-}
-
 // One event: refused with the same records, memories and count, or accepted. The pins are those that a sensor reading names.
 pub fn step(
     event: u16,
@@ -109,11 +89,20 @@ pub fn step(
         ≡ busStepOf event pins (bus (four chips (now (memory0 .entry)) (now (writers0 .entry)) (now (memory1 .entry)) (now (writers1 .entry))
         (now (memory2 .entry)) (now (writers2 .entry)) (now (memory3 .entry)) (now (writers3 .entry))) count) ⌝ }
 {
-    let long = is_long(memory0.len(), writers0.len())
-        & (is_long(memory1.len(), writers1.len())
-            & (is_long(memory2.len(), writers2.len()) & is_long(memory3.len(), writers3.len())));
-    let fit = all_fit(event, chips, memory0, memory1, memory2, memory3);
-    let refused = bus_refusals::of_step(event, pins, chips, count, long, fit);
+    let refused = bus_refusals::of_step(
+        event,
+        pins,
+        chips,
+        count,
+        memory0,
+        writers0,
+        memory1,
+        writers1,
+        memory2,
+        writers2,
+        memory3,
+        writers3,
+    );
     if refused != 0 {
         return BusStepped {
             answer: Answer::Refused(refused),

@@ -1,7 +1,7 @@
 use Rattle.registers.proofs.Below.{and-true}
 use borrow.Author.Needs.{needs}
-use Rattle.bus_step.proofs.all_fit.Statement.{statement}
-use Rattle.bus_step.proofs.all_fit.Tie as tie
+use Rattle.bus_refusals.proofs.all_fit.Statement.{statement}
+use Rattle.bus_refusals.proofs.all_fit.Tie as tie
 
 counts-fit-requires : tie.Need-counts-fit-requires
 counts-fit-requires c κs = search needs
