@@ -4,6 +4,7 @@ pub mod Meets
 pub mod Streams
 pub mod Observed
 pub mod Chips
+pub mod PastEntry
 pub mod Glasses
 pub mod Pulses
 pub mod Start

@@ -3,6 +3,7 @@ use mathlib.Core.Bool.{cond}
 use mathlib.Core.List.{List, [], _∷_}
 use Prim.Native.Nat.{ℕ, _+_, _*_}
 use Rattle.cases_proved.specs.Cited.{getD, values, countFor, State, After, answerNumber, stepOf, Outcome, runOf, tally, Unknown, OutOfRange}
+use Rattle.cases_proved.specs.Cited.{stepPastEntry, runPastEntry, tallyPastEntry}
 
 -- ---- a chip, and what can be seen of it
 
@@ -15,6 +16,11 @@ pub record Behaviour : Type 0 where
 
 unfoldable pub chip : Behaviour
 chip = record { step = stepOf; run = runOf; unknown = tally Unknown; out-of-range = tally OutOfRange }
+
+-- the same past the entry, which has tested 1 and 2
+unfoldable pub pastEntry : Behaviour
+pastEntry =
+    record { step = stepPastEntry; run = runPastEntry 0; unknown = tallyPastEntry Unknown; out-of-range = tallyPastEntry OutOfRange }
 
 abbrev pub register : ℕ → State → ℕ
 register f s = getD (values (s .chip .registers)) f 0

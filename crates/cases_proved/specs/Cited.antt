@@ -53,6 +53,7 @@ unfoldable pub use Rattle.phases.specs.Phases.{isAddressed, phaseAfterAddress, 
 unfoldable pub use Rattle.engine.specs.Step.{entryRefusal, eventRefusal, pixelRefusal, refusalOf, acknowledge, applied, accepted, stepOf}
 unfoldable pub use Rattle.phases.specs.Changes.{controlled, readByte, pulsed, sensed}
 unfoldable pub use Rattle.engine.specs.Run.{runFrom, runOf, tally}
+unfoldable pub use Rattle.engine.specs.PastEntry.{refusalPastEntry, stepPastEntry, runPastEntry, tallyPastEntry}
 unfoldable pub use Rattle.chip.specs.Plays.{Plays}
 unfoldable pub use Rattle.text.specs.Decimal.{numberOf}
 unfoldable pub use Rattle.lists.specs.Line.{lineOf}

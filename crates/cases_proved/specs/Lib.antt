@@ -6,6 +6,7 @@ pub mod Streams
 pub mod Observed
 pub mod Behaviour
 pub mod Chips
+pub mod PastEntry
 pub mod Pixels
 pub mod Glasses
 pub mod Pulses
