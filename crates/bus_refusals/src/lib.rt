@@ -86,7 +86,7 @@ fn of_fit(fit: bool) -> u8
     if fit { 0 } else { 16 }
 }
 
-// All seven in their order; where there is none, the event can be counted. `long` says that all memories have their length, `fit` that all counts of
+// All seven in their order. `long` says that all memories have their length, `fit` that all counts of
 // pixels would stay in their range.
 fn in_order(event: u16, pins: u64, chips: Chips, count: u64, long: bool, fit: bool) -> u8
     ensures { λ r. ⌜ r ≡ devicesRefusalFor long (recordsOf chips) then sentRefusal event pins count then pixelsRefusalFor fit ⌝ }
@@ -114,7 +114,7 @@ fn all_fit(
             & (counts_fit(event, chips.chip2, memory2) & counts_fit(event, chips.chip3, memory3)))
 }
 
-// The refusal of an event, from the records and the memories.
+// The refusal of an event, from the records and the memories; where there is none, the event can be counted.
 pub fn of_step(
     event: u16,
     pins: u64,

@@ -45,11 +45,7 @@ part-refused-exactly part p k = (λ e. subst (λ (n : ℕ). PartWhen p n) (sym n
         go zero e = ap (λ (f : PartFed). f .refusal) (feed-passed part p (none-refused p e)) ∙ sym e
         go (suc n) e = ap (λ (f : PartFed). f .refusal) (feed-refused part p n e) ∙ sym e
 
--- past the entry, where 1 and 2 let the state pass, a line ends as it does with every test
-pub ends-past-entry : (l : LineSoFar) (s : State) → Fit s → endedPastEntry l s ≡ endedLine l s
-ends-past-entry l s fit = same-ended l s fit
-
--- a part that is refused changes nothing
+-- and then nothing is changed
 pub refused-part-unchanged : (part : List ℕ) (p : Playing) → (feedOf part p .refusal ≡ 0 → ⊥) → feedOf part p .after ≡ p
 refused-part-unchanged part p n = go (partRefusal p) refl
   where
@@ -97,6 +93,10 @@ replay-refused-exactly text m w k end =
     right e (all-replayed end r q) = let z : _≡_ {A = ℕ} 0 1 = cc in omega arith
     right e (refused-first n q) = let z : _≡_ {A = ℕ} 0 1 = cc in omega arith
     right e (refused-after n end r q) = let z : _≡_ {A = ℕ} 0 1 = cc in omega arith
+
+-- past the entry, where 1 and 2 let the state pass, a line ends as it does with every test
+pub ends-past-entry : (l : LineSoFar) (s : State) → Fit s → endedPastEntry l s ≡ endedLine l s
+ends-past-entry l s fit = same-ended l s fit
 
 -- ---- reading in parts
 

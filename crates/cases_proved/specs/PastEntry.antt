@@ -1,4 +1,4 @@
--- Wrong steps and runs past the entry (document 02, W9): they test what they should not, or do not test what they should.
+-- Wrong steps and runs past the entry (document 02, W9): what they test, and what they do.
 use mathlib.Core.List.{List, [], _∷_}
 use Prim.Native.Nat.{_-_, _^_}
 use Rattle.cases_proved.specs.Cited.{X}
@@ -14,8 +14,9 @@ pastEntryRows =
     ∷ answer (upon (X is 101 ∷ [])) [] START gives nothing not 2
     ∷ runRefusal (lent 1717 1718 (upon [])) [] gives 0 not 1
     ∷ runRefusal (upon (X is 101 ∷ [])) [] gives 0 not 2
+    ∷ runDone (lent 1716 1717 (upon [])) (START ∷ STOP ∷ []) gives 2 not 1
     ∷ runDone (upon (X is 101 ∷ [])) (START ∷ STOP ∷ []) gives 2 not 1
-    -- 3, 4 and 16 not tested, at the first event and at a later one
+    -- 3, 4 and 16 not tested: by a step, and at a later event of a run
     ∷ answer (upon []) [] 261 gives 3 not nothing
     ∷ answer (counting (2 ^ 64 - 1) (upon [])) [] START gives 4 not nothing
     ∷ answer (having 3 0 0 0 (upon [])) (displayBytes []) 0xFF gives 16 not acknowledged
@@ -24,8 +25,9 @@ pastEntryRows =
     ∷ runRefusal (having 4 0 0 0 (upon [])) (displayBytes (0xFF ∷ 0xFF ∷ [])) gives 16 not 0
     -- 4 before 3
     ∷ answer (counting (2 ^ 64 - 1) (upon [])) [] 261 gives 3 not 4
-    -- a refused event that is counted, or undoes what came before; one after it that is done
+    -- a refused event that is counted, is done, or undoes what came before; one after it that is done
     ∷ leave (upon []) (261 ∷ []) count gives 0 not 1
+    ∷ leave (having 3 0 0 0 (upon [])) (displayBytes (0xFF ∷ [])) (cell 0 0) gives 0 not 0xFF
     ∷ runLeaves (upon []) (START ∷ 261 ∷ STOP ∷ []) count gives 1 not 0
     ∷ runLeaves (upon []) (START ∷ 261 ∷ STOP ∷ []) count gives 1 not 2
     -- an accepted event that is not done, or has another number

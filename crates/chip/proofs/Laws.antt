@@ -287,7 +287,7 @@ tested-at-entry es s = PastEntry.tested-at-entry es s
 pub tallied-from-entry : (a : CommandAnswer) (es : List ℕ) (s : State) → tally a es s ≡ countUnless (entryRefusal s) (tallyPastEntry a es s)
 tallied-from-entry a es s = PastEntry.tallied-from-entry es s a
 
--- past the entry 3, 4 and 16 alone refuse an event, whatever the record
+-- past its entry 3, 4 and 16 alone stop a run, whatever the record
 pub past-entry-refusals : (es : List ℕ) (s : State) → PastEntryNumber (runPastEntry 0 es s .refusal)
 past-entry-refusals es s = PastEntry.run-past-entry-number 0 es s
 

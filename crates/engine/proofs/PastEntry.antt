@@ -1,4 +1,5 @@
--- From what 1 and 2 let pass, a step and a run need not test them again: each accepted event leaves such a state.
+-- From what 1 and 2 let pass, a step and a run need not test them again: each accepted event leaves such a state. And which numbers are left, from any
+-- state.
 use mathlib.Core.Bool.{Bool, true, false, not, _&&_}
 use mathlib.Core.List.{List, [], _∷_}
 use mathlib.Core.Logic.{inl, inr}
@@ -18,12 +19,12 @@ use Rattle.engine.proofs.Allowed.{accepted-fit}
 use Rattle.engine.proofs.Refusals.{entry-fit, fit-entry}
 use Rattle.engine.proofs.Tallies.{tally-refused}
 
-pub same-refusal : (e : ℕ) (s : State) → Fit s → refusalPastEntry e s ≡ refusalOf e s
+same-refusal : (e : ℕ) (s : State) → Fit s → refusalPastEntry e s ≡ refusalOf e s
 unfolding refusalOf refusalPastEntry
 same-refusal e s fit = rw (fit-entry s fit)
 
 -- 1 and 2 are not among the numbers by which it refuses, from any state
-pub past-entry-number : (e : ℕ) (s : State) → PastEntryNumber (refusalPastEntry e s)
+past-entry-number : (e : ℕ) (s : State) → PastEntryNumber (refusalPastEntry e s)
 unfolding refusalPastEntry eventRefusal pixelRefusal
 past-entry-number e s =
     go (not (isListedEvent e)) (eqb (s .count) (2 ^ 64 - 1))
@@ -48,14 +49,14 @@ pub same-step : (e : ℕ) (s : State) → Fit s → stepPastEntry e s ≡ stepOf
 unfolding stepPastEntry stepOf
 same-step e s fit = ap (λ (k : ℕ). unlessRefused k (accepted e s) s) (same-refusal e s fit)
 
-pub same-run : (n : ℕ) (es : List ℕ) (s : State) → Fit s → runPastEntry n es s ≡ runFrom n es s
+same-run : (n : ℕ) (es : List ℕ) (s : State) → Fit s → runPastEntry n es s ≡ runFrom n es s
 unfolding runPastEntry runFrom
 same-run n [] s fit = refl
 same-run n (e ∷ es) s fit =
     ap₂ (λ (k : ℕ) (rest : Outcome). unlessStopped k n s rest) (same-refusal e s fit)
     (same-run (n + 1) es (accepted e s .state) (accepted-fit e s fit))
 
-pub same-tally : (k : CommandAnswer) (es : List ℕ) (s : State) → Fit s → tallyPastEntry k es s ≡ tally k es s
+same-tally : (k : CommandAnswer) (es : List ℕ) (s : State) → Fit s → tallyPastEntry k es s ≡ tally k es s
 unfolding tallyPastEntry tally
 same-tally k [] s fit = refl
 same-tally k (e ∷ es) s fit =

@@ -37,11 +37,11 @@ tallyPastEntry k [] s = 0
 tallyPastEntry k (e ∷ es) s =
     countUnless (refusalPastEntry e s) (countsAs k (accepted e s .answer) + tallyPastEntry k es (accepted e s .state))
 
--- the answer to the last of them that was tried, a refused one's too; a is the answer to the one before
 abbrev pub answerUnless : ℕ → Answer → Answer
 answerUnless zero a = a
 answerUnless (suc k) a = Refused (suc k)
 
+-- the answer to the last of them that was tried, a refused one's too; a is the answer to the one before
 abbrev pub answerPastEntry : List ℕ → State → Answer → Answer
 answerPastEntry [] s a = a
 answerPastEntry (e ∷ es) s a =
