@@ -1,4 +1,6 @@
 // What the bus answers, of what its chips answer.
+#![tactic(auto)]
+
 ghost use Rattle.std.specs.Prelude.{◌≡◌};
 ghost use Rattle.engine.specs.Event.{event_of};
 ghost use Rattle.bus.specs.Step.{or_else, unanswered};

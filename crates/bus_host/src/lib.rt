@@ -1,4 +1,6 @@
 // What the host's call for a bus is made of: four records read from a host's words, and written back.
+#![tactic(auto)]
+
 ghost use Rattle.std.specs.Prelude.{◌&&◌, ◌≡◌, eqb};
 ghost use Rattle.registers.specs.State.{places};
 ghost use Rattle.record_words.specs.Words.{stored};
@@ -9,7 +11,7 @@ use bus_refusals::{Chips, is_long};
 use record_words::{Read, read_record, write_record};
 
 // Four records, or none where the words of one stand for none.
-#[derive(Drop)]
+#[derive(Clone, Copy)]
 pub enum FourRead {
     Records(Chips),
     NoRecord,

@@ -1,4 +1,6 @@
 // The refusals of a bus event, in their order: 1, 2, 12, 3, 13, 4, 16; 0 is none.
+#![tactic(auto)]
+
 ghost use Rattle.std.specs.Prelude.{◌&&◌, [], ◌≡◌, ◌<◌, eqb};
 ghost use Rattle.registers.specs.Refusals.{◌then◌};
 ghost use Rattle.registers.specs.State.{places};
@@ -12,7 +14,7 @@ use registers::Chip;
 mod sharing;
 
 // The four records, in the order of their memories.
-#[derive(Drop)]
+#[derive(Clone, Copy)]
 pub struct Chips {
     pub chip0: Chip,
     pub chip1: Chip,

@@ -7,7 +7,7 @@ use engine::answer::Answer;
 use registers::Chip;
 
 // The chip's answer, and the chip after the event.
-#[derive(Drop)]
+#[derive(Clone, Copy)]
 pub struct Heard {
     pub answer: Answer,
     pub chip: Chip,

@@ -1,4 +1,6 @@
 // Four chips on one bus: an event reaches them all, and one count numbers the events.
+#![tactic(auto)]
+
 ghost use Rattle.std.specs.Prelude.{◌≡◌, map};
 ghost use Rattle.bus.specs.Bus.{bus};
 ghost use Rattle.bus.specs.Step.{bus_after, bus_step_of};
@@ -11,14 +13,14 @@ use engine::answer::Answer;
 mod device;
 
 // What the bus answers, and the chips after the event.
-#[derive(Drop)]
+#[derive(Clone, Copy)]
 struct Delivered {
     pub answer: Answer,
     pub chips: Chips,
 }
 
 // The answer to an event, and the chips and the count after it.
-#[derive(Drop)]
+#[derive(Clone, Copy)]
 pub struct BusStepped {
     pub answer: Answer,
     pub chips: Chips,

@@ -1,4 +1,6 @@
 // A capture read in parts of any size, and played on a chip as it comes: document 01, "Replay listing".
+#![tactic(auto)]
+
 ghost use Rattle.std.specs.Prelude.{◌≡◌, ◌≤◌, length};
 ghost use Rattle.capture.specs.Feeding.{kept, start_of, bytes_fed, fed, feed_of, end_of, finish_of, is_over_at};
 ghost use Rattle.capture.specs.Lines.{PartlyFed};
@@ -13,7 +15,7 @@ pub mod refusal;
 
 // The chip after the events so far, how many they were, and the present line. Before the end of the first line the pins are not known
 // and the pixels not counted, and the chip stands with pins 0 as for a cleared memory.
-#[derive(Drop)]
+#[derive(Clone, Copy)]
 pub struct Capture {
     pub chip: Chip,
     pub count: u64,
@@ -21,7 +23,7 @@ pub struct Capture {
 }
 
 // What a part comes to: the number of its refusal, 0 being none, and what is kept then. A refused part leaves it as it was.
-#[derive(Drop)]
+#[derive(Clone, Copy)]
 pub struct Fed {
     pub refusal: u8,
     pub capture: Capture,
@@ -29,7 +31,7 @@ pub struct Fed {
 
 // What a capture comes to, with the chip and the count of its events. A bad event line is the line after those and the first line:
 // count + 2, a number that need not fit 64 bits.
-#[derive(Drop)]
+#[derive(Clone, Copy)]
 pub enum End {
     // No replay: 1, a lent memory isn't 1,717 long; 2, what was kept is not allowed.
     Refused(u8),

@@ -10,7 +10,7 @@ use capture_lines::LineSoFar;
 use registers::Chip;
 
 // What is kept after event lines of a part, and the place behind them.
-#[derive(Drop)]
+#[derive(Clone, Copy)]
 pub struct LinesPlayed {
     pub capture: Capture,
     pub at: usize,

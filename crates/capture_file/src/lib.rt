@@ -3,6 +3,8 @@
 // What is done with the bytes that came is an equation, `take_in`. No contract can say which bytes those are: `play` promises the replay of what some
 // answers of the system gave, and a program that never reads, as if each answer were 0 bytes, meets that too. That the file's own bytes are played is
 // tested: tests/programs compares the programs with the model's on files and pipes, cut at every place.
+#![tactic(auto)]
+
 ghost use Rattle.std.specs.Prelude.{◌≡◌};
 ghost use Rattle.program_io.specs.Answers.{answer_of};
 ghost use Rattle.capture.specs.Feeding.{kept};
@@ -12,7 +14,7 @@ ghost use Rattle.capture_file.specs.Played.{TurnOfSome, ReplayOfSome};
 use capture::{Capture, End, Fed};
 
 // What the bytes of one read come to, whether there may be more to read, and whether that read failed.
-#[derive(Drop)]
+#[derive(Clone, Copy)]
 pub struct Turn {
     pub fed: Fed,
     pub more: bool,
@@ -20,7 +22,7 @@ pub struct Turn {
 }
 
 // What was read comes to `end`; where `failed`, reading stopped with an error, and errno says which.
-#[derive(Drop)]
+#[derive(Clone, Copy)]
 pub struct Played {
     pub end: End,
     pub failed: bool,

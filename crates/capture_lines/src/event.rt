@@ -7,7 +7,7 @@ use crate::bytes;
 use crate::bytes::NEWLINE;
 
 // The event, and how many bytes its line has, the newline among them; 0 where no whole line stands there.
-#[derive(Drop)]
+#[derive(Clone, Copy)]
 pub struct EventLine {
     pub event: u16,
     pub bytes: usize,

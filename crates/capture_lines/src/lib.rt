@@ -1,4 +1,6 @@
 // A line of a capture, read byte by byte from parts of any size; and the whole event lines of a part, read many at a time.
+#![tactic(auto)]
+
 ghost use Rattle.std.specs.Prelude.{◌≡◌, ◌-◌, length, drop};
 ghost use Rattle.capture_lines.specs.SoFar.{is_refused, scanned_from};
 ghost use Rattle.capture_lines.specs.Events.{lines_from, counted, over, LinesRead, NoneLeft};
@@ -7,7 +9,7 @@ mod bytes;
 mod event;
 
 // What has been read of the present line, its newline not among it.
-#[derive(Drop)]
+#[derive(Clone, Copy)]
 pub enum LineSoFar {
     // The first line: how many bytes of `pins` and the tab behind it.
     First(u8),
@@ -24,7 +26,7 @@ pub enum LineSoFar {
 }
 
 // A line, and the place up to which it has been read.
-#[derive(Drop)]
+#[derive(Clone, Copy)]
 pub struct Scanned {
     pub line: LineSoFar,
     pub at: usize,
@@ -55,7 +57,7 @@ pub fn is_refused(line: LineSoFar) -> bool
 }
 
 // How many event lines were read, and the place behind them.
-#[derive(Drop)]
+#[derive(Clone, Copy)]
 pub struct EventLines {
     pub count: usize,
     pub at: usize,

@@ -15,7 +15,7 @@ use engine::answer::Answer;
 use registers::Chip;
 
 // Where a capture stands, with what was made of it so far.
-#[derive(Drop)]
+#[derive(Clone, Copy)]
 pub struct Course {
     pub chip: Chip,
     pub count: u64,

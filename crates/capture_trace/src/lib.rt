@@ -1,5 +1,7 @@
 // A capture followed event by event as it comes in parts: how many bytes from the master were acknowledged, and, where that is asked for, a line for
 // each event. It is played as `capture` plays it.
+#![tactic(auto)]
+
 ghost use Rattle.std.specs.Prelude.{◌≡◌};
 ghost use Rattle.registers.specs.State.{state};
 ghost use Rattle.print.specs.Printed.{Wrote};
@@ -16,7 +18,7 @@ mod event;
 pub mod tally;
 
 // What a part comes to, the tally after it, and how long the lines are that were written.
-#[derive(Drop)]
+#[derive(Clone, Copy)]
 pub struct Followed {
     pub fed: Fed,
     pub tally: Tally,

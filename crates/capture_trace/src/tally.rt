@@ -4,7 +4,7 @@ ghost use Rattle.capture_trace.specs.Follow.{none_tallied, one_more, with_acknow
 
 use engine::answer::Answer;
 
-#[derive(Drop)]
+#[derive(Clone, Copy)]
 pub struct Tally {
     pub acknowledged: u64,
     pub not_acknowledged: u64,

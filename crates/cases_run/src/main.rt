@@ -7,6 +7,8 @@
 //   record W0 W1 .. W37 COUNT        after that run
 //   cell COLUMN BANK BYTE EVENT      for each written place, by bank, then column
 //   pulses ROW 5 P0 P1 P2 P3         for each of the glass's rows 8 to 11 that is lit in column 5
+#![tactic(auto)]
+
 mod cases;
 mod example;
 

@@ -1,4 +1,6 @@
 // A chip's record in words, a line each, name, tab, value; and what is printed of a capture that was followed to its end.
+#![tactic(auto)]
+
 ghost use Rattle.std.specs.Prelude.{◌≡◌};
 ghost use Rattle.registers.specs.Refusals.{record_refusal};
 ghost use Rattle.print.specs.Printed.{Wrote, output, whole_text};

@@ -7,7 +7,7 @@ use instruction_table::table::ROWS;
 
 // Taken: it is a byte of a row of the present page, and its numbers are in range. Unknown: it is of no such row. Out of range: its page, Y or X is
 // one that there is not, and the register stays as it is.
-#[derive(Drop)]
+#[derive(Clone, Copy)]
 pub enum CommandAnswer {
     Taken,
     Unknown,

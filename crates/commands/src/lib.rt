@@ -1,4 +1,6 @@
 // A command byte: the row of the present page that takes it, that row's method, and the answer.
+#![tactic(auto)]
+
 ghost use Rattle.std.specs.Prelude.{◌≡◌};
 ghost use Rattle.commands.specs.Command.{command_of, answer_to};
 
@@ -9,7 +11,7 @@ pub mod answer;
 mod pages;
 
 // The answer to a command byte, and the registers after it.
-#[derive(Drop)]
+#[derive(Clone, Copy)]
 pub struct Commanded {
     pub answer: CommandAnswer,
     pub registers: Registers,

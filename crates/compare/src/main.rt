@@ -1,5 +1,7 @@
 // compare FIRST SECOND: plays two captures, each on a chip after reset, and lists the cells and the registers that differ at their ends, or says in
 // which of the two files a line is bad. Neither capture is ever held as a whole, and both files are open before the first is read.
+#![tactic(auto)]
+
 ghost use Rattle.std.specs.Prelude.{◌≡◌, length};
 
 use capture::End;

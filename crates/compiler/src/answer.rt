@@ -3,7 +3,7 @@ ghost use Rattle.std.specs.Prelude.{◌≡◌};
 ghost use Rattle.compiler.specs.Compile.{numbers_of};
 
 // `clocks` are the bus clocks that the events take, nine for each byte. A line is given by its number from 1.
-#[derive(Drop)]
+#[derive(Clone, Copy)]
 pub enum Compiled {
     Done { length: usize, clocks: usize },
     Refused(u8),
@@ -12,7 +12,7 @@ pub enum Compiled {
 }
 
 // The number given back and the three beside it. Those that an answer does not name are 0.
-#[derive(Drop)]
+#[derive(Clone, Copy)]
 pub struct Numbers {
     pub number: u64,
     pub length: u64,

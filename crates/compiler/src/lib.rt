@@ -1,4 +1,6 @@
 // Drawing lists to bus events. What a list means, which events say it, and that the two agree on every chip stands in `drawing`.
+#![tactic(auto)]
+
 ghost use Rattle.std.specs.Prelude.{◌≡◌, ◌≤◌};
 ghost use Rattle.registers.specs.Record.{blank};
 ghost use Rattle.lists.specs.Lists.{newlines, reading_of};

@@ -10,7 +10,7 @@ use lists::Line;
 use registers::Registers;
 
 // How many events there are, and how many of them are bytes.
-#[derive(Drop)]
+#[derive(Clone, Copy)]
 pub struct Counts {
     pub events: usize,
     pub bytes: usize,

@@ -8,7 +8,7 @@ use crate::line;
 use lists::Parsed;
 use registers::Registers;
 
-#[derive(Drop)]
+#[derive(Clone, Copy)]
 pub enum Measured {
     Fault { number: u8, line: usize },
     Whole { length: usize, bytes: usize },

@@ -9,7 +9,7 @@ use crate::line::Counts;
 use registers::Registers;
 
 // `count` messages of `bytes` display bytes each. The first begins at X x and Y y, and each at dx more and dy more than the one before.
-#[derive(Drop)]
+#[derive(Clone, Copy)]
 pub struct Runs {
     count: usize,
     bytes: usize,

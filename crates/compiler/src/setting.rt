@@ -24,7 +24,7 @@ pub fn page_of(row: usize) -> u8
 }
 
 // The command bytes of a set, the first `count` of `bytes`.
-#[derive(Drop)]
+#[derive(Clone, Copy)]
 pub struct Commands {
     pub bytes: [u16; 5],
     pub count: usize,

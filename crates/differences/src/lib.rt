@@ -1,5 +1,7 @@
 // What differs at the ends of two captures: the cells whose byte or writer number differs, by bank, then column, then the registers; and what is
 // printed of two captures, which may be refused.
+#![tactic(auto)]
+
 ghost use Rattle.std.specs.Prelude.{◌≡◌, ◌<◌, length};
 ghost use Rattle.registers.specs.Record.{values};
 ghost use Rattle.registers.specs.Refusals.{◌then◌, lengths_refusal};

@@ -1,4 +1,6 @@
 // Display bytes: what is stored, where, how the address counter moves on, and what comes of the pixels by value.
+#![tactic(auto)]
+
 ghost use Rattle.std.specs.Prelude.{◌≡◌, set};
 ghost use Rattle.display.specs.Display.{kept, stored_of, column_of, place_of, next, next_on_wrap, next_address, pixels_fit, pixels_after};
 

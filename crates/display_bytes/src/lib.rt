@@ -1,4 +1,6 @@
 // Display bytes one after the other: a run takes a stretch of them at once.
+#![tactic(auto)]
+
 ghost use Rattle.std.specs.Prelude.{◌≡◌, ◌+◌, drop, length};
 ghost use Rattle.display_bytes.specs.Lanes.{is_ordinary};
 ghost use Rattle.display_bytes.specs.Stretch.{stretched, stretch_from, addressed, room_for};
@@ -9,7 +11,7 @@ mod packed;
 mod plain;
 
 // How many events were done, and the address and the pixels by value then.
-#[derive(Drop)]
+#[derive(Clone, Copy)]
 pub struct Stretch {
     pub done: usize,
     pub x: u8,

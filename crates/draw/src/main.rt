@@ -1,6 +1,8 @@
 // draw PINS [LIST]: prints the capture that plays a drawing list on a chip after reset, or the one line that says why the compiler refuses it; then a
 // sentence on standard error says the same in words. The list is the file that LIST names, or standard input. Nothing is printed before the whole
 // list is known to be good. `name`, its first `named` bytes, is what a message about the list begins with.
+#![tactic(auto)]
+
 mod input;
 mod output;
 mod refusal;
@@ -24,7 +26,7 @@ fn is_good(chip: Chip, list: &[u8], name: &[u8], named: usize) -> bool {
 }
 
 // The chip and the count after a line's events, and whether they could be printed.
-#[derive(Drop)]
+#[derive(Clone, Copy)]
 struct Drawn {
     chip: Chip,
     count: u64,

@@ -6,7 +6,7 @@ use commands::answer::CommandAnswer;
 
 // Nothing for START, STOP, reset pulse and sensor reading; an acknowledge or none for a byte; the byte for a read. A command byte is acknowledged
 // too, and its answer says besides whether it was taken.
-#[derive(Drop)]
+#[derive(Clone, Copy)]
 pub enum Answer {
     Refused(u8),
     Nothing,

@@ -54,7 +54,7 @@ pub fn interface_after(event: Event, interface: Interface, registers: Registers)
         Event::Stop => interface.in_phase(Phase::Idle),
         Event::ReadAcknowledged => interface,
         Event::ReadNotAcknowledged => {
-            interface.in_phase(phases::interface::phase_after_last_read(phase))
+            interface.in_phase(phases::other::phase_after_last_read(phase))
         }
         Event::Reset => interface.pulsed(),
         Event::Sensor(value) => interface.sensed(registers, value),

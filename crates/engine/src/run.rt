@@ -8,7 +8,7 @@ use registers::Chip;
 
 // How many events were done, how many of them were unknown commands and commands out of range, the refusal that stopped the run or 0, and the chip
 // and the count after it.
-#[derive(Drop)]
+#[derive(Clone, Copy)]
 pub struct Ran {
     pub done: usize,
     pub unknown: usize,

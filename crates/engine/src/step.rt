@@ -8,7 +8,7 @@ use crate::answer::Answer;
 use registers::Chip;
 
 // The answer to an event, and the chip and the count after it.
-#[derive(Drop)]
+#[derive(Clone, Copy)]
 pub struct Stepped {
     pub answer: Answer,
     pub chip: Chip,

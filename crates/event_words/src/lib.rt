@@ -1,4 +1,6 @@
 // What a bus event is, in words, and how it is answered: a line for each event.
+#![tactic(auto)]
+
 ghost use Rattle.print.specs.Printed.{Wrote};
 ghost use Rattle.event_words.specs.Words.{sensor_words, event_words, what_of, command_answer_words, refused_words, answer_words};
 ghost use Rattle.event_words.specs.Line.{event_line};

@@ -3,7 +3,7 @@ ghost use Rattle.std.specs.Prelude.{◌≡◌};
 ghost use Rattle.glass.specs.Answer.{shown_number, cell_number};
 
 // What is shown. Dark: the display is off; undriven: the row is outside the partial display; a level is 0 to 62, or 64.
-#[derive(Drop)]
+#[derive(Clone, Copy)]
 pub enum Shown {
     Refused(u8),
     Dark,
@@ -12,7 +12,7 @@ pub enum Shown {
 }
 
 // Where it stands: a place of the memories, 0 to 1716.
-#[derive(Drop)]
+#[derive(Clone, Copy)]
 pub enum Cell {
     Refused(u8),
     At(u16),

@@ -1,4 +1,6 @@
 // The glass: what a row and column show, and which place of the memories that is. Nothing is changed.
+#![tactic(auto)]
+
 ghost use Rattle.std.specs.Prelude.{◌≡◌, ◌≤◌};
 ghost use Rattle.glass.specs.Pixel.{place_at};
 ghost use Rattle.glass.specs.Glass.{cell_of, glass_of};

@@ -1,4 +1,6 @@
 // The calls of a host in C (include/pcf8820.h). The host holds a chip's record as words; each call answers for every buffer it may be lent.
+#![tactic(auto)]
+
 ghost use Rattle.std.specs.Prelude.{◌≡◌};
 ghost use Rattle.registers.specs.Refusals.{lengths_refusal};
 ghost use Rattle.host.specs.Calls.{no_record_for, reset, reset_call, stepped, step_call, ran, run_call};

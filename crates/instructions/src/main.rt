@@ -1,4 +1,6 @@
 // Prints the tables of docs/INSTRUCTIONS.md from the chip's own data: the commands bit by bit, the order of the search, and the registers.
+#![tactic(auto)]
+
 mod names;
 
 use instruction_table::table;

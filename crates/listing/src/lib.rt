@@ -1,4 +1,6 @@
 // The replay listing: the cells that have a writer, by bank, then column; the line that says where a capture is bad; and which of the two is printed.
+#![tactic(auto)]
+
 ghost use Rattle.std.specs.Prelude.{◌≡◌, ◌+◌, ◌<◌, length};
 ghost use Rattle.registers.specs.State.{places};
 ghost use Rattle.print.specs.Printed.{Wrote, output, whole_text};

@@ -1,4 +1,6 @@
 // Drawing lists: the grammar of a line, the reader of a list, and functions with plain parameters above it.
+#![tactic(auto)]
+
 ghost use Rattle.std.specs.Prelude.{◌≡◌};
 ghost use Rattle.lists.specs.Lists.{newlines, line_at, newline_before};
 
@@ -8,7 +10,7 @@ pub mod reader;
 const NEWLINE: u8 = 10;
 
 // What a line asks for. `put` is a fill of one cell. A register is given by its place in the record's order.
-#[derive(Drop)]
+#[derive(Clone, Copy)]
 pub enum Line {
     Fill {
         first_column: u8,
@@ -24,14 +26,14 @@ pub enum Line {
 }
 
 // A line, or document 01's number 6, 7 or 8.
-#[derive(Drop)]
+#[derive(Clone, Copy)]
 pub enum Parsed {
     Good(Line),
     Bad(u8),
 }
 
 // The line at a place of a text, and the place where the next one starts.
-#[derive(Drop)]
+#[derive(Clone, Copy)]
 pub struct LineAt {
     pub parsed: Parsed,
     pub next: usize,

@@ -7,7 +7,7 @@ use crate::{LineAt, Parsed};
 
 const NEWLINE: u8 = 10;
 
-#[derive(Drop)]
+#[derive(Clone, Copy)]
 pub struct Reader<'a> {
     pub text: &'a [u8],
     pub at: usize,

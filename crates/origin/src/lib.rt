@@ -1,4 +1,6 @@
 // The crew's own question: a pixel of the glass is pointed at, and what is told is where it stands and which event wrote it.
+#![tactic(auto)]
+
 ghost use Rattle.std.specs.Prelude.{◌≡◌, ◌<◌, length};
 ghost use Rattle.glass.specs.When.{Told};
 ghost use Rattle.print.specs.Printed.{decimal_of, Wrote, output, whole_text};
@@ -14,7 +16,7 @@ const NEWLINE: u8 = 10;
 
 // A pixel of the glass, the place of the memories that it shows, and what stands there. Bank and column of the cell follow from the place, the line of
 // the capture from the event.
-#[derive(Drop)]
+#[derive(Clone, Copy)]
 pub struct Origin {
     pub row: usize,
     pub column: usize,

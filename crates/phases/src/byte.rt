@@ -1,8 +1,9 @@
 // A byte from the master: whether it is this chip's address, and which phase comes after it.
 ghost use Rattle.std.specs.Prelude.{◌≡◌};
+ghost use Rattle.phases.specs.Changes.{controlled};
 ghost use Rattle.phases.specs.Phases.{is_addressed, phase_after_address, phase_after_control, rs_of, awaits_content, is_endless, phase_after_content};
 
-use registers::Phase;
+use registers::{Chip, Phase};
 
 // High seven bits 01111 SA1 SA0.
 pub fn is_addressed(pins: u8, byte: u8) -> bool
@@ -42,6 +43,14 @@ pub fn phase_after_control(byte: u8) -> Phase
     } else {
         Phase::EndlessBytes(rs)
     }
+}
+
+pub fn controlled(chip: Chip, byte: u8) -> Chip
+    ensures { result ≡ controlled byte chip }
+{
+    let mut next = chip.in_phase(phase_after_control(byte));
+    next.last_rs = rs_of(byte);
+    next
 }
 
 // A command or display data comes next.

@@ -6,43 +6,16 @@ ghost use Rattle.registers.specs.declared.Registers.{Registers};
 ghost use Rattle.registers.specs.Record.{reset_registers};
 ghost use Rattle.phases.specs.Changes.{controlled, read_byte, sensed, pulsed};
 ghost use Rattle.phases.specs.Interface.{whole, turned};
-ghost use Rattle.phases.specs.Phases.{is_reading, phase_after_last_read};
 
 use registers::{Chip, Phase, PixelCounts, Registers};
 
 // The pins SA, the status byte TR, the last RS, and where the bus stands.
-#[derive(Drop)]
+#[derive(Clone, Copy)]
 pub struct Interface {
     pub pins: u8,
     pub status: u8,
     pub last_rs: bool,
     pub phase: Phase,
-}
-
-fn is_reading(phase: Phase) -> bool
-    ensures { result ≡ is_reading phase }
-{
-    match phase {
-        Phase::Idle => false,
-        Phase::AddressAwaited => false,
-        Phase::Ignoring => false,
-        Phase::ControlAwaited => false,
-        Phase::OneByte(_) => false,
-        Phase::EndlessBytes(_) => false,
-        Phase::Reading => true,
-        Phase::ReadEnded => false,
-    }
-}
-
-// A byte that the master does not acknowledge ends the read.
-pub fn phase_after_last_read(phase: Phase) -> Phase
-    ensures { result ≡ phase_after_last_read phase }
-{
-    if is_reading(phase) {
-        Phase::ReadEnded
-    } else {
-        phase
-    }
 }
 
 impl Interface {
@@ -97,7 +70,7 @@ impl Interface {
         ensures { (r : Registers) (n : PixelCounts) → result ≡ read_byte (whole r self n) }
     {
         let phase = self.phase;
-        if is_reading(phase) & !self.last_rs {
+        if crate::other::is_reading(phase) & !self.last_rs {
             self.status
         } else {
             255

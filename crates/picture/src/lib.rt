@@ -1,4 +1,6 @@
 // The glass as a portable pixmap, for any viewer of pictures.
+#![tactic(auto)]
+
 ghost use Rattle.std.specs.Prelude.{◌≡◌};
 ghost use Rattle.print.specs.Printed.{Wrote, output};
 ghost use Rattle.picture.specs.Picture.{grey, rgb, colour_of, pixel_text, pixel_at, pixmap_of, pixmap_refusal, pixmap_call};
@@ -12,7 +14,7 @@ const BLANK: u8 = 32;
 const NEWLINE: u8 = 10;
 
 // Parts of 255.
-#[derive(Drop)]
+#[derive(Clone, Copy)]
 pub struct Colour {
     pub red: u8,
     pub green: u8,

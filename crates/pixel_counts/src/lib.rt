@@ -1,4 +1,6 @@
 // How many pixels of the glass have each value: counted from a display memory, and mended where one byte takes the place of another.
+#![tactic(auto)]
+
 ghost use Rattle.std.specs.Prelude.{◌≡◌};
 ghost use Rattle.pixel_counts.specs.Counts.{counts_of, counting_start};
 
@@ -8,7 +10,7 @@ pub mod mending;
 mod shown;
 
 // The number of the refusal, 0 being none, and the counts, which are 0 where it is refused.
-#[derive(Drop)]
+#[derive(Clone, Copy)]
 pub struct Counted {
     pub refusal: u8,
     pub pixels: PixelCounts,

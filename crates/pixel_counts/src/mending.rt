@@ -7,7 +7,7 @@ use registers::PixelCounts;
 
 // The counts of the four values after a byte has taken another's place. Where one of them would leave its range, `fit` is false, and the counts mean
 // nothing.
-#[derive(Drop)]
+#[derive(Clone, Copy)]
 pub struct Mended {
     pub fit: bool,
     pub pixels: PixelCounts,

@@ -1,11 +1,13 @@
 // Text written into a buffer at a place: bytes, and numbers in decimal. Each writer stores what the buffer has places for and gives the
 // place after all of its bytes, so that a result above the length shows that there was no room, and how much is needed.
+#![tactic(auto)]
+
 ghost use Rattle.std.specs.Prelude.{[], ◌∷◌, ◌++◌, ◌≡◌, ◌+◌};
 ghost use Rattle.print.specs.Chosen.{named_line};
 ghost use Rattle.print.specs.Printed.{decimal_of, place_after, Wrote, written_number, written_length};
 
 // How the writing of a whole text ended: its length, the length that is needed where the output is shorter, or the number of a refusal.
-#[derive(Drop)]
+#[derive(Clone, Copy)]
 pub enum Written {
     Text(usize),
     Short(usize),

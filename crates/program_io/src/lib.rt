@@ -3,6 +3,8 @@
 // No contract can say what the system did with a call, and these say no more than they can. A program that never asks the system meets them too;
 // that the inputs are read and the texts written is tested: tests/programs compares the programs with the model's on files and pipes, and their
 // messages with the bytes that they must be. How a line is composed is an equation, in `words`.
+#![tactic(auto)]
+
 pub mod words;
 
 ghost use Rattle.std.specs.Prelude.{true, ◌≡◌, ◌≤◌, length};

@@ -3,7 +3,7 @@ ghost use Rattle.std.specs.Prelude.{◌≡◌};
 ghost use Rattle.pulses.specs.Answer.{pulses_number};
 
 // Dark: the display is off; undriven: the row is outside the partial display. Lit: the pulses of frames 0, 1, 2 and 3.
-#[derive(Drop)]
+#[derive(Clone, Copy)]
 pub enum Pulses {
     Refused(u8),
     Dark,

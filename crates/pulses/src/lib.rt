@@ -1,5 +1,7 @@
 // The pulses of the four frames that build a grey level: of a pixel, and of a whole row of the glass. The chip and its memory are only
 // looked at.
+#![tactic(auto)]
+
 ghost use Rattle.std.specs.Prelude.{[], ◌∷◌, ◌≡◌};
 ghost use Rattle.glass.specs.declared.answer.Shown.TheVariants.{Level};
 ghost use Rattle.print.specs.Printed.{Wrote};

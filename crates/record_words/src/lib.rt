@@ -1,4 +1,6 @@
 // A chip's record as a host in C holds it, in words of 64 bits: whether they stand for a record, and both ways across.
+#![tactic(auto)]
+
 ghost use Rattle.std.specs.Prelude.{◌≡◌, true, ◌++◌, length, take, drop};
 ghost use Rattle.registers.specs.Record.{within, values, counts};
 ghost use Rattle.record_words.specs.Words.{PIXELS, record_length, word_limits, stands_for, pixels_of, chip_of, words_of, read_of, stored, bit};
@@ -14,7 +16,7 @@ pub const WORDS: usize = 38;
 const REST_LIMITS: [u64; 9] = [3, 255, 1, 7, 1, 6767, 6767, 6767, 6767];
 
 // What words say: a record, or nothing, as they stand for none.
-#[derive(Drop)]
+#[derive(Clone, Copy)]
 pub enum Read {
     Record(Chip),
     NoRecord,

@@ -1,6 +1,8 @@
 // The chip's record as plain data: registers, bus phase and the rest, their limits and reset values, and the row methods.
+#![tactic(auto)]
+
 ghost use Rattle.std.specs.Prelude.{◌≡◌};
-ghost use Rattle.registers.specs.Record.{phase_rs, reset_chip, allowed_registers, allowed_counts, allowed, with_pixels};
+ghost use Rattle.registers.specs.Record.{phase_rs, reset_chip, allowed_registers, allowed_counts, allowed, in_phase, with_registers, with_pixels};
 
 mod bytes;
 pub mod entry;
@@ -11,7 +13,7 @@ pub mod reversed;
 pub mod rows;
 
 // The registers of the data sheet's bit table, in document 01's order. H is the command page.
-#[derive(Drop)]
+#[derive(Clone, Copy)]
 pub struct Registers {
     pub h: u8,
     pub data_order: u8,
@@ -45,7 +47,7 @@ pub struct Registers {
 }
 
 // Where the bus stands. `true` is RS 1, display data; `false` is RS 0, a command.
-#[derive(Drop)]
+#[derive(Clone, Copy)]
 pub enum Phase {
     Idle,
     AddressAwaited,
@@ -58,7 +60,7 @@ pub enum Phase {
 }
 
 // How many pixels of the glass have the value 0, 1, 2 and 3.
-#[derive(Drop)]
+#[derive(Clone, Copy)]
 pub struct PixelCounts {
     pub zeros: u16,
     pub ones: u16,
@@ -68,7 +70,7 @@ pub struct PixelCounts {
 
 // The chip's record: the registers, the pins SA, the status byte TR, the last RS, the bus phase and the pixels by value. The event count is the bus's
 // and stands beside it.
-#[derive(Drop)]
+#[derive(Clone, Copy)]
 pub struct Chip {
     pub registers: Registers,
     pub pins: u8,
@@ -169,6 +171,30 @@ impl Chip {
         let registers = self.registers;
         let pixels = self.pixels;
         registers.allowed() & (self.pins <= 3) & pixels.allowed()
+    }
+
+    // The same record in another phase. A field that holds an enum is not stored to: the struct is made anew.
+    pub fn in_phase(self, phase: Phase) -> Self
+        ensures { result ≡ in_phase self phase }
+    {
+        let registers = self.registers;
+        let pixels = self.pixels;
+        Self {
+            registers,
+            pins: self.pins,
+            status: self.status,
+            last_rs: self.last_rs,
+            phase,
+            pixels,
+        }
+    }
+
+    // The same record with other registers.
+    pub fn with_registers(mut self, registers: Registers) -> Self
+        ensures { result ≡ with_registers self registers }
+    {
+        self.registers = registers;
+        self
     }
 
     // The same record with other counts of pixels.

@@ -2,6 +2,8 @@
 // line the capture is bad. The capture is the file that the argument names, or standard input; it is never held as a whole.
 
 // `name`, its first `named` bytes, is what a message about the capture begins with.
+#![tactic(auto)]
+
 fn replay(fd: i32, name: &[u8], named: usize) {
     let mut memory = [0u8; 1717];
     let mut writers = [0u64; 1717];

@@ -1,4 +1,6 @@
 // The search for the row of a command byte: page return first, then the rows of the present page alone, up to the one that takes the byte.
+#![tactic(auto)]
+
 ghost use Rattle.std.specs.Prelude.{◌≡◌, ◌≤◌};
 ghost use Rattle.registers.specs.Table.{row_at};
 ghost use Rattle.row_search.specs.Search.{held_in, found_among, search_of};
@@ -8,7 +10,7 @@ use registers::entry::entry;
 
 // The pages of commands: function and RAM, display setting, high voltage generator, grey-scale and colour, special features. There is no other, so
 // no other can be asked for.
-#[derive(Drop)]
+#[derive(Clone, Copy)]
 pub enum Page {
     Function,
     Display,
@@ -18,7 +20,7 @@ pub enum Page {
 }
 
 // The row that takes the byte, or ROWS, and how many rows were looked at.
-#[derive(Drop)]
+#[derive(Clone, Copy)]
 pub struct Found {
     pub row: usize,
     pub looked: usize,

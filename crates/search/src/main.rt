@@ -1,4 +1,6 @@
 // search: prints for each page and byte, in order, how many rows are looked at until the one that takes the byte: page, byte, rows, parted by tabs.
+#![tactic(auto)]
+
 use row_search::{Page, find};
 
 fn line(number: u8, byte: u8, looked: usize, out: &mut [u8], at: usize) -> usize {

@@ -1,6 +1,8 @@
 // state [CAPTURE]: plays a capture on a chip after reset and prints the chip at its end: the registers by name, pins, status byte, last RS, phase and
 // event count, how many bytes from the master were acknowledged and how many not, and how many pixels have each value; or says at which line the capture
 // is bad. The capture is the file that the argument names, or standard input; it is never held as a whole.
+#![tactic(auto)]
+
 const USAGE: [u8; 15] = *b"state [CAPTURE]";
 
 fn state(fd: i32, name: &[u8], named: usize) {

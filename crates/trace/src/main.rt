@@ -1,6 +1,8 @@
 // trace [CAPTURE]: plays a capture on a chip after reset and prints a line for each event as it is read: its number, the event, what it is to the chip
 // as it then stands, and the answer; or at which line the capture is bad. The capture is the file that the argument names, or standard input; it is
 // never held as a whole.
+#![tactic(auto)]
+
 const USAGE: [u8; 15] = *b"trace [CAPTURE]";
 
 // The line of a capture that is bad, behind those of the events before it.

@@ -4,6 +4,8 @@
 // What is done with the bytes that came is an equation, `take_in`. No contract can say which bytes those are, nor that the lines were put: `follow`
 // promises of the end, the memories and the tally that they are those of what some answers of the system gave. That the file's own bytes are followed
 // and their lines printed is tested, as for `capture_file`.
+#![tactic(auto)]
+
 ghost use Rattle.std.specs.Prelude.{◌≡◌, length};
 ghost use Rattle.program_io.specs.Answers.{answer_of, bytes_of};
 ghost use Rattle.capture.specs.Feeding.{kept};
@@ -18,7 +20,7 @@ use capture_file::Turn;
 use capture_trace::tally::Tally;
 
 // What the bytes of one read come to, the tally after them, and how long their lines are.
-#[derive(Drop)]
+#[derive(Clone, Copy)]
 pub struct Step {
     pub turn: Turn,
     pub tally: Tally,
@@ -27,7 +29,7 @@ pub struct Step {
 
 // What was read comes to `end`, and was tallied so. Where `failed`, reading stopped with an error, and errno says which. Where not `printed`, the
 // lines could not be put, which has been said, and nothing more was read.
-#[derive(Drop)]
+#[derive(Clone, Copy)]
 pub struct Followed {
     pub end: End,
     pub tally: Tally,

@@ -1,5 +1,7 @@
 // view [CAPTURE]: plays a capture on a chip after reset and prints what the glass then shows, as a portable pixmap, or says at which line the capture
 // is bad. The capture is the file that the argument names, or standard input; it is never held as a whole.
+#![tactic(auto)]
+
 ghost use Rattle.std.specs.Prelude.{◌≡◌, length};
 
 use capture::End;

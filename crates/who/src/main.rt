@@ -3,6 +3,8 @@
 // held as a whole.
 
 // `name`, its first `named` bytes, is what a message about the capture begins with.
+#![tactic(auto)]
+
 fn who(fd: i32, name: &[u8], named: usize, row: usize, column: usize) {
     let mut memory = [0u8; 1717];
     let mut writers = [0u64; 1717];

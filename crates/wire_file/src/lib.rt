@@ -4,6 +4,8 @@
 // What is done with the bytes that came is an equation, `take_in`; that their texts together are the capture of all bytes is `in_parts` in
 // wire_text/proofs/Laws.antt. No contract can say which bytes came, nor that the texts were put: `capture` promises the unclear samples of what some
 // answers of the system gave. That the file's own bytes are read and their text printed is tested, as for `capture_file`.
+#![tactic(auto)]
+
 ghost use Rattle.std.specs.Prelude.{◌≡◌, length};
 ghost use Rattle.print.specs.Printed.{Wrote};
 ghost use Rattle.program_io.specs.Answers.{answer_of};
@@ -13,7 +15,7 @@ ghost use Rattle.wire_file.specs.Some.{TurnOfSome, CaptureOfSome};
 use wire_text::{Reading, Told};
 
 // What the bytes of one read come to, whether there may be more to read, and whether that read failed.
-#[derive(Drop)]
+#[derive(Clone, Copy)]
 pub struct Turn {
     pub told: Told,
     pub more: bool,
@@ -22,7 +24,7 @@ pub struct Turn {
 
 // How many samples were unclear. Where `failed`, reading stopped with an error, and errno says which. Where not `printed`, the text could not be put,
 // which has been said, and nothing more was read.
-#[derive(Drop)]
+#[derive(Clone, Copy)]
 pub struct Captured {
     pub unclear: u64,
     pub failed: bool,

@@ -1,4 +1,6 @@
 // Samples of the two wires of the bus, SCL in bit 1 and SDA in bit 0 of a byte, to the numbers of bus events.
+#![tactic(auto)]
+
 ghost use Rattle.std.specs.Prelude.{◌≡◌, length};
 ghost use Rattle.wire_samples.specs.Sample.{at_start};
 ghost use Rattle.wire_samples.specs.Feed.{feed_of, answer_of, stored};
@@ -9,7 +11,7 @@ mod sample;
 mod signal;
 
 // Where in a message the wires are.
-#[derive(Drop)]
+#[derive(Clone, Copy)]
 pub enum Stage {
     // outside START to STOP
     Outside,
@@ -25,7 +27,7 @@ pub enum Stage {
 
 // What is kept from one sample to the next: how many samples were unclear, the last sample, the stage, how many bits of the present byte were taken,
 // and their value.
-#[derive(Drop)]
+#[derive(Clone, Copy)]
 pub struct Wires {
     pub unclear: u64,
     pub last: u8,
@@ -35,7 +37,7 @@ pub struct Wires {
 }
 
 // How many samples were consumed, how many events written, the refusal or 0, and the wires after those samples.
-#[derive(Drop)]
+#[derive(Clone, Copy)]
 pub struct Fed {
     pub wires: Wires,
     pub consumed: usize,

@@ -7,13 +7,13 @@ ghost use Rattle.wire_samples.specs.Sample.{read_event, event_of, byte_done, on_
 use crate::signal::Signal;
 use crate::{Stage, Wires};
 
-#[derive(Drop)]
+#[derive(Clone, Copy)]
 pub enum Told {
     Nothing,
     Event(u16),
 }
 
-#[derive(Drop)]
+#[derive(Clone, Copy)]
 pub struct Sampled {
     pub wires: Wires,
     pub told: Told,

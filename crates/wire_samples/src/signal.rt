@@ -33,7 +33,7 @@ fn changes(before: bool, now: bool) -> bool
     rises(before, now) | falls(before, now)
 }
 
-#[derive(Drop)]
+#[derive(Clone, Copy)]
 pub enum Signal {
     // nothing that counts
     Quiet,

@@ -43,7 +43,7 @@ fn lines(events: &[u16], out: &mut [u8], at: usize) -> usize
 }
 
 // Where the samples stand: the wires after those that were told, and the place behind the lines of their events.
-#[derive(Drop)]
+#[derive(Clone, Copy)]
 pub struct Course {
     pub wires: Wires,
     pub length: usize,

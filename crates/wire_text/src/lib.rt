@@ -1,5 +1,7 @@
 // Samples of the two wires of the bus, as they come in parts of any size, to the text of a capture: the `pins` line, the number of each event that
 // they tell on a line of its own, and, at a byte that is no sample, the line that says where it stands.
+#![tactic(auto)]
+
 ghost use Rattle.std.specs.Prelude.{◌≡◌};
 ghost use Rattle.print.specs.Printed.{Wrote, place_after};
 ghost use Rattle.wire_text.specs.Capture.{last_line};
@@ -12,7 +14,7 @@ mod events;
 
 // What is kept from one part to the next: the pins, whether their line is written, the wires, how many samples there were, and whether a byte has
 // come that is none.
-#[derive(Drop)]
+#[derive(Clone, Copy)]
 pub struct Reading {
     pub pins: u8,
     pub begun: bool,
@@ -22,7 +24,7 @@ pub struct Reading {
 }
 
 // The reading after a part, and how long the text is that was written.
-#[derive(Drop)]
+#[derive(Clone, Copy)]
 pub struct Told {
     pub reading: Reading,
     pub length: usize,

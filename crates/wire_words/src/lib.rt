@@ -1,4 +1,6 @@
 // The calls of a host in C that read wires. The host holds what is kept of them as words of 64 bits.
+#![tactic(auto)]
+
 ghost use Rattle.std.specs.Prelude.{◌≡◌};
 ghost use Rattle.wire_words.specs.Calls.{started, start_call, called, wires_call};
 

@@ -9,7 +9,7 @@ use wire_samples::Wires;
 pub const WORDS: usize = 5;
 
 // What words say: a wire state, or nothing, as they stand for none.
-#[derive(Drop)]
+#[derive(Clone, Copy)]
 pub enum Read {
     State(Wires),
     NoState,

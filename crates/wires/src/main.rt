@@ -2,6 +2,8 @@
 // one event number a line; at a byte above 3, which is no sample, the line that says where it stands, and no more. A sample has SCL in bit 1 and SDA
 // in bit 0. The samples are the file that SAMPLES names, or standard input; they are never held as a whole. How many were unclear, because both lines
 // changed at once, is told on standard error at the end.
+#![tactic(auto)]
+
 mod unclear;
 
 const USAGE: [u8; 20] = *b"wires PINS [SAMPLES]";

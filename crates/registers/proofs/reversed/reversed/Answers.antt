@@ -1,0 +1,6 @@
+use Rattle.registers.proofs.Tables.{reversed-at}
+use borrow.Author.Rules.{rules}
+use Rattle.registers.proofs.reversed.reversed.Goals as goal
+
+pub returns : goal.returns
+returns c = reversed-at _ (search rules)
