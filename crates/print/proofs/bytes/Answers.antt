@@ -1,5 +1,4 @@
 use mathlib.Core.Path.{refl}
-use Prim.Native.Nat.{◌-◌}
 use native.Mathlib.Omega.{arith}
 use Rattle.print.proofs.CodeWays.{rest-turn, rest-none}
 use Rattle.print.proofs.Writing.{wrote-next}
