@@ -1,10 +1,7 @@
 use Rattle.capture_lines.proofs.WholeLines.{no-line-at, line_at, no_lines, one-more-line, here-from, reading-starts, reading-goes-on, ends_at, ends-near, ends-full}
-use lib.ListN.{length}
 use mathlib.Core.Path.{refl}
-use Prim.Native.Nat.{◌-◌}
 use native.Mathlib.Omega.{arith}
 use borrow.Author.Rules.{rules}
-use borrow.Author.Tests.{ltb-true, ltb-false}
 use Rattle.capture_lines.proofs.event_lines.Goals as goal
 
 pub loop-at-init : goal.loop-at-init
@@ -15,7 +12,7 @@ returns-then-line-eq0 c =
     let part = c.args.part.now in
     let here = here-from part c.loop-at.at _ (omega arith) c.line_in-line.ensures in
     let end = ends_at _ _ _ _ _ _ c.loop-at.invariant.2 c.loop-at.invariant.1.room _ here c.if-line-eq0.true in
-record { lines_read = ((c.loop-at.invariant.1, (λ room inside. no-line-at _ _ _ _ _ c.line_in-line.ensures c.if-line-eq0.true, end))).0; none_left = ((c.loop-at.invariant.1, (λ room inside. no-line-at _ _ _ _ _ c.line_in-line.ensures c.if-line-eq0.true, end))).1; value = ((c.loop-at.invariant.1, (λ room inside. no-line-at _ _ _ _ _ c.line_in-line.ensures c.if-line-eq0.true, end))).2; events_after = ((c.loop-at.invariant.1, (λ room inside. no-line-at _ _ _ _ _ c.line_in-line.ensures c.if-line-eq0.true, end))).3 }
+    record { lines_read = c.loop-at.invariant.1; none_left = λ room inside. no-line-at _ _ _ _ _ c.line_in-line.ensures c.if-line-eq0.true; value = end.0; events_after = end.1 }
 
 pub overflow_add-at-in-loop-at-3 : goal.overflow_add-at-in-loop-at-3
 overflow_add-at-in-loop-at-3 c =
@@ -27,7 +24,7 @@ overflow_add-at-in-loop-at-3 c =
 pub loop-at-smaller : goal.loop-at-smaller
 loop-at-smaller c =
     let head = c.loop-at in
-    omega (arith, ltb-true head.count (length head.events) c.if-count-events.true)
+    omega arith
 
 pub loop-at-preserved : goal.loop-at-preserved
 loop-at-preserved c =
@@ -35,7 +32,7 @@ loop-at-preserved c =
     let part = c.args.part.now in
     let line = line_at part head.at (omega arith) _ c.line_in-line.ensures c.if-line-eq0.false in
     let here = here-from part head.at _ (omega arith) c.line_in-line.ensures in
-    let room = ltb-true head.count (length head.events) c.if-count-events.true in (
+    let room = c.if-count-events.true in (
       search rules,
       one-more-line _ _ _ _ _ _ head.invariant.1 room line,
       reading-goes-on _ _ _ _ _ _ _ head.invariant.2 room here c.if-line-eq0.false,
@@ -44,12 +41,12 @@ loop-at-preserved c =
 pub returns-else-count-events : goal.returns-else-count-events
 returns-else-count-events c =
     let head = c.loop-at in
-    let full = ltb-false head.count (length head.events) c.if-count-events.false in
+    let full = c.if-count-events.false in
     let end = ends-full _ _ _ _ _ _ head.invariant.2 head.invariant.1.room full in
-record { lines_read = ((head.invariant.1, (λ room inside. absurd (omega (arith, room, full)), end))).0; none_left = ((head.invariant.1, (λ room inside. absurd (omega (arith, room, full)), end))).1; value = ((head.invariant.1, (λ room inside. absurd (omega (arith, room, full)), end))).2; events_after = ((head.invariant.1, (λ room inside. absurd (omega (arith, room, full)), end))).3 }
+    record { lines_read = head.invariant.1; none_left = λ room inside. absurd (omega (arith, room, full)); value = end.0; events_after = end.1 }
 
 pub returns-after-loop-at : goal.returns-after-loop-at
 returns-after-loop-at c =
     let head = c.loop-at in
     let end = ends-near _ _ _ _ _ _ head.invariant.2 head.invariant.1.room (omega arith) in
-record { lines_read = ((head.invariant.1, (λ room inside. absurd (omega (arith, inside)), end))).0; none_left = ((head.invariant.1, (λ room inside. absurd (omega (arith, inside)), end))).1; value = ((head.invariant.1, (λ room inside. absurd (omega (arith, inside)), end))).2; events_after = ((head.invariant.1, (λ room inside. absurd (omega (arith, inside)), end))).3 }
+    record { lines_read = head.invariant.1; none_left = λ room inside. absurd (omega (arith, inside)); value = end.0; events_after = end.1 }

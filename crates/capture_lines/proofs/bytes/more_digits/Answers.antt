@@ -2,7 +2,6 @@ use Rattle.capture_lines.proofs.CodeWays.{digit-follows}
 use Rattle.capture_lines.proofs.CodeWays.{more-range}
 use lib.ListN.{get_or}
 use native.Mathlib.Omega.{arith}
-use Prim.Native.Nat.{◌-◌}
 use mathlib.Core.Path.{refl, ◌∙◌}
 use Rattle.capture_lines.proofs.bytes.more_digits.Goals as goal
 

@@ -1,5 +1,4 @@
 use Rattle.capture_lines.proofs.CodeWays.{scan-stops, scan-on, scan-ends}
-use Prim.Native.Nat.{◌-◌}
 use mathlib.Core.Path.{refl, sym, ◌∙◌}
 use Rattle.capture_lines.proofs.bytes.scan_bytes.Goals as goal
 
