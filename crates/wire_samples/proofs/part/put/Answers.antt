@@ -6,8 +6,10 @@ bounds-events-at c = put-room c.args.events.now _ _ _ c.in-Event.is c.requires
 
 pub returns-in-Nothing : goal.returns-in-Nothing
 returns-in-Nothing c =
-    record { events_after = (put-nothing _ _ c.args.events.now c.in-Nothing.is).0; value = (put-nothing _ _ c.args.events.now c.in-Nothing.is).1 }
+    let there = put-nothing c.args.events.now _ _ c.in-Nothing.is in
+    record { events_after = there.0; value = there.1 }
 
 pub returns-in-Event : goal.returns-in-Event
 returns-in-Event c =
-    record { events_after = (put-event _ _ c.args.events.now _ c.in-Event.is).0; value = (put-event _ _ c.args.events.now _ c.in-Event.is).1 }
+    let there = put-event c.args.events.now _ _ _ c.in-Event.is in
+    record { events_after = there.0; value = there.1 }

@@ -2,7 +2,6 @@ use Rattle.wire_samples.proofs.Again.{last-sample}
 use Rattle.wire_samples.proofs.SoFar.{begins, short, has_room, put_on, skipped, all_read}
 use mathlib.Core.Path.{refl, sym, ap, ◌∙◌}
 use native.Mathlib.Omega.{arith}
-use Prim.Native.Nat.{◌-◌}
 use Rattle.wire_samples.specs.declared.sample.Sampled.{Sampled}
 use Rattle.wire_samples.proofs.part.read.Goals as goal
 

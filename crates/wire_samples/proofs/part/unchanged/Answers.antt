@@ -1,6 +1,5 @@
 use Rattle.wire_samples.proofs.CodeWays.{repeats-end, repeats-on, repeats-past}
 use mathlib.Core.Path.{refl, sym, ◌∙◌}
-use Prim.Native.Nat.{◌-◌}
 use Rattle.wire_samples.proofs.part.unchanged.Goals as goal
 
 pub loop-at-init : goal.loop-at-init

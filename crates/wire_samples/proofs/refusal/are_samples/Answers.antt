@@ -1,6 +1,5 @@
 use Rattle.wire_samples.proofs.CodeWays.{tested-one, tested-all}
 use mathlib.Core.Path.{refl, sym, ◌∙◌}
-use Prim.Native.Nat.{◌-◌}
 use borrow.Author.Rules.{rules}
 use Rattle.wire_samples.proofs.refusal.are_samples.Goals as goal
 
