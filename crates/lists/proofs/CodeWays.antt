@@ -1,8 +1,8 @@
--- Ways through the code, over plain variables: of a line, then of the reader, whose functions are proved by hand.
-use mathlib.Core.Path.{◌≡◌, sym, ◌∙◌, refl}
+-- Ways through the code of a line, over plain variables.
+use mathlib.Core.Path.{◌≡◌, sym, ◌∙◌}
 use mathlib.Core.Bool.{Bool, true, false}
-use mathlib.Core.List.{List, [], ◌∷◌}
-use Prim.Native.Nat.{ℕ, ◌<◌, ◌^◌}
+use mathlib.Core.List.{List}
+use Prim.Native.Nat.{ℕ, ◌<◌}
 use native.Mathlib.Omega.{arith}
 use borrow.Author.Tests.{eq-eqb, ne_eqb}
 use lib.ListN.{length}
@@ -14,26 +14,6 @@ use Rattle.lists.specs.declared.Parsed.{Parsed}
 use Rattle.lists.specs.declared.Parsed.TheVariants.{Bad}
 use Rattle.lists.specs.Line.{tab, is_field, piece_at, number_at, fill_within, set_within, fill_of, set_of, put_line, fill_line, set_line, line_of}
 use Rattle.lists.proofs.Ranges.{field-tested}
-use seplogic.Ra.Ura.{Ura}
-use mir.Syntax.{named, w64}
-use mir.Val.{Val, vint}
-use base.Logic.{ent, sep}
-use base.Fml.{Lft, Share, Fml, ftrue, flft}
-use types.Logic.{Logic, sem}
-use types.Kit.{‵, ◌⊛◌, given, learn, drop, ⋆, ◌$◌, ◌∵◌, !, qed, by, move, use1, split as parts, join, fjoin, frame, done}
-use denote.RattleType.{owns}
-use denote.Laws.{Is}
-use denote.Plain.{uint_Makes}
-use denote.Builtin.{u8, usize}
-use denote.Ref.{Bor, NamedLft}
-use denote.Signature.{named_lft}
-use denote.Slice.{slice_val, ShrSlice, shr_slice_copy}
-use denote.Steps.{nothing, owned}
-use denote.Struct.Rest.{all_own, field_own, rest, own_open, own_out, own_shut}
-use denote.Struct.Laws as LL
-use Rattle.lists.specs.Lists.{reader_at}
-use Rattle.lists.specs.contracts.reader.Reader as T
-use Rattle.lists.proofs.reader.Reader.TheLaws as T'
 
 -- ---- numbers, the first malformed one deciding
 
@@ -104,78 +84,3 @@ module _ (p w : List ℕ) (ew : w ≡ piece_at (split tab p) 0) (t0 : Bool) (e0 
       pub is_none : t2 ≡ false → Bad 6 ≡ line_of p
       unfolding line_of
       is_none h = rw (← ew, sym e0 ∙ n0, sym e1 ∙ n1, sym e2 ∙ h)
-
--- ---- what a lent text and its reader own
-
--- what a lent text owns
-abbrev pub Text : Lft → Bor (List ℕ) → Fml
-Text κ s = (ShrSlice (named 0) κ u8).own_val s (slice_val s.ref_ptr (length s.now) ∷ [])
-
--- what a reader of it owns at a place
-abbrev pub Held : Lft → Bor (List ℕ) → ℕ → Fml
-Held κ s n = (T.the_row (named_lft 1 0 tt (κ, tt))).own_val (reader_at s n) (T'.lowered (reader_at s n) ∷ [])
-
--- a text and a number, as they are passed
-abbrev pub Passed : Lft → Bor (List ℕ) → ℕ → Fml
-Passed κ s n =
-    owns (ShrSlice (named 0) κ u8 ∷ usize ∷ []) (s, (n, tt)) (slice_val s.ref_ptr (length s.now) ∷ [], (vint w64 n ∷ [], tt))
-
-module _ {M : Type 1} {𝓤 : Ura M} (𝓛 : Logic 𝓤) (κ : Lft) (s : Bor (List ℕ)) (n : ℕ) (ok : n < 2 ^ 64) where
-  abbrev lowered : Val
-  lowered = T'.lowered (reader_at s n)
-
-  -- what a function that takes a text and a number asks; what the text owns is kept
-  pub lends-text :
-      (q : Share)
-      → ent 𝓤 (⋆ 𝓛 ((‵ (flft κ q) ⊛ ‵ ftrue) ∷ ‵ (Text κ s) ∷ []))
-      (sep 𝓤 (⋆ 𝓛 ((‵ (flft κ q) ⊛ ‵ ftrue) ∷ ‵ (Passed κ s n) ∷ [])) (sem 𝓛 (Text κ s)))
-  lends-text q =
-      qed 𝓛 ((‵ (flft κ q) ⊛ ‵ ftrue) ∷ ‵ (Text κ s) ∷ []) ∵
-      move ! (1 ∷ []) $
-      use1 𝓛 (‵ (Text κ s) ⊛ ‵ (Text κ s)) ((shr_slice_copy 𝓛 (named 0) κ u8).twice s (slice_val s.ref_ptr (length s.now) ∷ [])) $ parts ! $
-      nothing ! $ owned ! usize (Is usize) (uint_Makes 𝓛 w64) n _ (refl, ok) $ fjoin ! $ move ! (1 ∷ 0 ∷ []) $ fjoin ! $
-      -- [what is passed; what the text owns; the token]
-      move ! (2 ∷ 0 ∷ []) $ join ! $ frame ! $ done !
-
-  abbrev α : NamedLft
-  α = named_lft 1 0 tt (κ, tt)
-
-  -- a reader is Copy, and gives what its text owns
-  pub held-twice : ent 𝓤 (sem 𝓛 (Held κ s n)) (sep 𝓤 (sem 𝓛 (Held κ s n)) (sem 𝓛 (Held κ s n)))
-  held-twice = (LL.copy (T.the_type α) (T'.the_copy α) 𝓛).twice (reader_at s n) (T'.lowered (reader_at s n) ∷ [])
-
-  gives-text : ent 𝓤 (sem 𝓛 (Held κ s n)) (sem 𝓛 (Text κ s))
-  gives-text =
-      qed 𝓛 (‵ (Held κ s n) ∷ []) ∵
-      use1 𝓛 (given (lowered ∷ [] ≡ lowered ∷ []) (‵ (all_own (T.the_type α).parts (T'.the_laws α) (s, (n, tt)))))
-      (own_open 𝓛 (T.the_type α) (T'.the_laws α) (s, (n, tt)) lowered) $ learn ! (λ _.
-      use1 𝓛 (‵ (field_own (T.the_type α).parts (T'.the_laws α) 0 s) ⊛ ‵ (rest (T.the_type α).parts (T'.the_laws α) 0 (s, (n, tt))))
-      (own_out 𝓛 (T.the_type α).parts (T'.the_laws α) 0 (s, (n, tt))) $ parts ! $ move ! (1 ∷ []) $ drop ! $ done !)
-
-  -- what such a function asks of a reader that is taken apart and kept
-  pub lends-reader :
-      (q : Share)
-      → ent 𝓤 (⋆ 𝓛 ((‵ (flft κ q) ⊛ ‵ ftrue) ∷ ‵ (Held κ s n) ∷ []))
-      (sep 𝓤 (⋆ 𝓛 ((‵ (flft κ q) ⊛ ‵ ftrue) ∷ ‵ (Passed κ s n) ∷ [])) (sem 𝓛 (Held κ s n)))
-  lends-reader q =
-      qed 𝓛 ((‵ (flft κ q) ⊛ ‵ ftrue) ∷ ‵ (Held κ s n) ∷ []) ∵
-      move ! (1 ∷ []) $ use1 𝓛 (‵ (Held κ s n) ⊛ ‵ (Held κ s n)) held-twice $ parts ! $ use1 𝓛 (‵ (Text κ s)) gives-text $
-      nothing ! $ owned ! usize (Is usize) (uint_Makes 𝓛 w64) n _ (refl, ok) $ fjoin ! $ move ! (1 ∷ 0 ∷ []) $ fjoin ! $
-      move ! (2 ∷ 0 ∷ []) $ join ! $ frame ! $ done !
-
-  pub reads-text : ent 𝓤 (sem 𝓛 (Text κ s)) (sem 𝓛 (Held κ s n))
-  reads-text =
-      qed 𝓛 (‵ (Text κ s) ∷ []) ∵
-      nothing ! $ owned ! usize (Is usize) (uint_Makes 𝓛 w64) n _ (refl, ok) $ fjoin ! $ move ! (1 ∷ 0 ∷ []) $ fjoin ! $
-      by ! (own_shut 𝓛 (T.the_type (named_lft 1 0 tt (κ, tt))) (T'.the_laws (named_lft 1 0 tt (κ, tt))) (s, (n, tt)))
-
-  -- what a function that takes a reader asks; what the text owns is kept
-  pub holds_text :
-      (q : Share)
-      → ent 𝓤 (⋆ 𝓛 ((‵ (flft κ q) ⊛ ‵ ftrue) ∷ ‵ (Text κ s) ∷ []))
-      (sep 𝓤 (⋆ 𝓛 ((‵ (flft κ q) ⊛ ‵ ftrue) ∷ ‵ (Held κ s n) ∷ [])) (sem 𝓛 (Text κ s)))
-  holds_text q =
-      qed 𝓛 ((‵ (flft κ q) ⊛ ‵ ftrue) ∷ ‵ (Text κ s) ∷ []) ∵
-      move ! (1 ∷ []) $
-      use1 𝓛 (‵ (Text κ s) ⊛ ‵ (Text κ s)) ((shr_slice_copy 𝓛 (named 0) κ u8).twice s (slice_val s.ref_ptr (length s.now) ∷ [])) $ parts ! $
-      use1 𝓛 (‵ (Held κ s n)) reads-text $ move ! (2 ∷ 0 ∷ []) $ join ! $ frame ! $ done !

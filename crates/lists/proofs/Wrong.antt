@@ -4,8 +4,7 @@ use mathlib.Core.Path.{◌≡◌}
 use mathlib.Core.List.{List, [], ◌∷◌}
 use Prim.Native.Nat.{ℕ}
 use native.Mathlib.Omega.{arith}
-use base.Fml.{GName}
-use denote.Ref.{MutBor}
+use Rattle.std.specs.Borrow.{Bor}
 use Rattle.text.specs.Decimal.{number_of}
 use Rattle.text.specs.Text.{bytes, find_of}
 use Rattle.lists.specs.declared.Line.TheVariants.{Set}
@@ -75,9 +74,9 @@ next-at-newline e = omega arith
 
 -- ---- a reader of that text
 
-module _ (b o : ℕ) (γ : GName) where
-  abbrev start : MutBor (List ℕ)
-  start = record { ref_ptr = (b, o); ghost_name = γ; now = two }
+module _ (b o : ℕ) where
+  abbrev start : Bor (List ℕ)
+  start = record { ref_ptr = (b, o); now = two }
 
   -- it reads from the first byte on
   pub starts-at-1 : numbers_of (line_here (reader_at start 0)).parsed ≡ 6 ∷ [] → ⊥

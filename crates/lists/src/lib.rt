@@ -39,7 +39,7 @@ pub struct LineAt {
     pub next: usize,
 }
 
-// The line of the reader of this text at this place. Whoever calls it passes plain numbers and slices, and needs no proof by hand.
+// The line of the reader of this text at this place. Whoever calls it passes plain numbers and slices.
 pub fn line_at(text: &[u8], at: usize) -> LineAt
     ensures { result ≡ line_at text.now at }
 {

@@ -1,5 +1,5 @@
-// The list reader: the text of a drawing list, and where in it the next line starts. The functions over it are thin, since each
-// of them is proved by hand; the work is left to one over a plain slice and a position, which is not.
+// The list reader: the text of a drawing list, and where in it the next line starts. The functions over it are thin: the work
+// is left to one over a plain slice and a position.
 ghost use Rattle.std.specs.Prelude.{◌≡◌};
 ghost use Rattle.lists.specs.Lists.{line_at, next_line, reader_at, line_here, past_line};
 
