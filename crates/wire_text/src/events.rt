@@ -51,10 +51,10 @@ pub struct Course {
 
 // As many samples as there is room for events: each tells one at most.
 fn tell_some(course: Course, samples: &[u8], events: &mut [u16], out: &mut [u8]) -> Course
-    requires wires_value { is_allowed course.wires ≡ true }
-    requires samples_value { are_samples samples.now ≡ true }
-    requires samples_in_bounds { length samples.now ≤ length events.old }
-    ensures wires_value_2 { result.wires ≡ after_all course.wires samples.now }
+    requires wires_allowed { is_allowed course.wires ≡ true }
+    requires all_samples { are_samples samples.now ≡ true }
+    requires room { length samples.now ≤ length events.old }
+    ensures wires { result.wires ≡ after_all course.wires samples.now }
     ensures wrote { Wrote out.old course.length (event_lines course.wires samples.now) out.new result.length }
 {
     let wires = course.wires;
@@ -83,9 +83,9 @@ fn next_end(from: usize, end: usize) -> usize
 }
 
 pub fn tell(course: Course, samples: &[u8], out: &mut [u8]) -> Course
-    requires wires_value { is_allowed course.wires ≡ true }
-    requires samples_value { are_samples samples.now ≡ true }
-    ensures wires_value_2 { result.wires ≡ after_all course.wires samples.now }
+    requires wires_allowed { is_allowed course.wires ≡ true }
+    requires all_samples { are_samples samples.now ≡ true }
+    ensures wires { result.wires ≡ after_all course.wires samples.now }
     ensures wrote { Wrote out.old course.length (event_lines course.wires samples.now) out.new result.length }
 {
     let mut events = room();

@@ -85,7 +85,7 @@ fn counted_on(samples: u64, more: usize) -> u64
 
 // The text of the next bytes, from the start of `out` on. They make at most four bytes each and 41 more (`part-bound`).
 pub fn tell(reading: Reading, part: &[u8], out: &mut [u8]) -> Told
-    ensures reading_value { result.reading ≡ after_part reading part.now }
+    ensures reading { result.reading ≡ after_part reading part.now }
     ensures wrote { Wrote out.old 0 (part_text reading part.now) out.new result.length }
 {
     if is_over(reading) {
