@@ -1,24 +1,17 @@
 -- Ways through the code, over plain variables.
 use mathlib.Core.Bool.{Bool, true, false, cond}
 use mathlib.Core.List.{List, [], ◌∷◌}
-use mathlib.Core.Path.{◌≡◌, refl, sym, ap, subst}
+use mathlib.Core.Path.{◌≡◌, refl, sym, ap}
 use Prim.Native.Nat.{ℕ, ◌+◌, ◌≤◌, ◌<◌}
 use native.Mathlib.Omega.{arith}
 use borrow.Author.Tests.{leb-false}
-use lib.Dec.{T, leb}
-use lib.IntN.{ℤ, pos, negsuc}
+use lib.Dec.{leb}
 use lib.ListN.{length, get_or, drop, drop_of_length-le}
-use lib.Signed.{lt_z}
 use Rattle.text.specs.Text.{bytes}
 use Rattle.text.proofs.Finding.{drop-next}
 use Rattle.print.specs.Printed.{top, Wrote}
 use Rattle.print.proofs.Writing.{wrote_then, wrote-same, wrote_none, wrote-length}
 use Rattle.program_io.specs.Messages.{shown_byte, shown_of, name_of, Began}
-use Rattle.program_io.specs.Promises.{Descriptor}
-
-pub not-below : (z : ℤ) → lt_z z (pos 0) ≡ false → Descriptor z
-not-below (pos k) h = tt
-not-below (negsuc k) h = absurd (subst T h tt)
 
 -- ---- a name: before byte n of it, at its end, and which of the two it is
 

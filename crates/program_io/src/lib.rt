@@ -5,168 +5,253 @@
 // messages with the bytes that they must be. How a line is composed is an equation, in `words`.
 #![tactic(auto)]
 
+pub mod reading;
 pub mod words;
 
 ghost use Rattle.std.specs.Prelude.{true, ◌≡◌, ◌≤◌, length};
 ghost use Rattle.program_io.specs.Promises.{NothingPromised, Opened};
 
+use reading::Source;
+use std::env::FillError;
+use std::fs::File;
+use std::io::Write;
+use std::rt::Env;
+use std::{io, str};
+
+// The numbers by which Linux calls them: a name that is longer than any path, no such argument, and a name that is no text.
+const NAME_TOO_LONG: i32 = 36;
+
+const NO_SUCH_ARGUMENT: i32 = 22;
+
+const NO_TEXT: i32 = 84;
+
+// Room for a line, and for a part of an input.
+pub fn buffer() -> [u8; 4096]
+    ensures { 4096 ≡ length result }
+{
+    [0; 4096]
+}
+
+// The same where much is moved at a time.
+pub fn large_buffer() -> [u8; 65536]
+    ensures { 65536 ≡ length result }
+{
+    [0; 65536]
+}
+
 // The first n bytes of the text on standard error, where it has them. The program's own name stands at their start, and a newline at their end.
-pub fn tell(text: &[u8], n: usize)
+// Where they are not taken, there is nowhere to say so.
+pub fn tell(rt: &HostRuntime, text: &[u8], n: usize)
     ensures { NothingPromised }
 {
     if n <= text.len() {
-        io::write_all(libc::STDERR_FILENO, &text[..n]);
+        let _ = rt.stderr().write_all(&text[..n]);
     }
 }
 
 // One line on standard error: the program's name, a colon, a blank and the message.
-pub fn say(program: &[u8], message: &[u8])
+pub fn say(rt: &HostRuntime, program: &[u8], message: &[u8])
     ensures { NothingPromised }
 {
-    let mut line = io::large_buffer();
+    let mut line = large_buffer();
     let n = words::message(program, message, &mut line);
-    tell(&line, n);
+    tell(rt, &line, n);
 }
 
 // One line on standard error: what is wrong with the call, and how the program is called.
-pub fn wrong_call(program: &[u8], fault: &[u8], usage: &[u8])
+pub fn wrong_call(rt: &HostRuntime, program: &[u8], fault: &[u8], usage: &[u8])
     ensures { NothingPromised }
 {
-    let mut line = io::large_buffer();
+    let mut line = large_buffer();
     let n = words::wrong_call(program, fault, usage, &mut line);
-    tell(&line, n);
+    tell(rt, &line, n);
 }
 
-// A call of the system failed, and errno has the reason: the first `named` bytes of `name`, which `open_input` gave, a colon and the reason are one
-// line on standard error.
-pub fn fail(name: &[u8], named: usize)
-    ensures { NothingPromised }
+// The words of an error, as much of them as has room, and how long they are.
+fn error_words(error: io::Error, out: &mut [u8]) -> usize
+    ensures { result ≤ length out.new }
 {
-    if named <= name.len() {
-        os::fail(&name[..named]);
+    let room = out.len();
+    let mut rest = out;
+    let _ = write!(rest, "{error}");
+    room.saturating_sub(rest.len())
+}
+
+// The reason in them: the system's words, without the number that std puts behind them, ` (os error 2)`.
+fn reason(words: &[u8]) -> &str {
+    let text = str::from_utf8(words).unwrap_or("");
+    match text.split_once(" (os error ") {
+        Some((reason, _)) => reason,
+        None => text,
     }
 }
 
+// A call of the system failed: the first `named` bytes of `name`, which `open_input` gave, a colon and the reason are one line on standard error.
+pub fn fail(rt: &HostRuntime, name: &[u8], named: usize, error: io::Error)
+    ensures { NothingPromised }
+{
+    let mut text = [0u8; 512];
+    let n = error_words(error, &mut text);
+    say_of(rt, name, named, reason(&text[..n]).as_bytes());
+}
+
 // One line on standard error about an input: the first `named` bytes of `name`, a colon, a blank and the message.
-pub fn say_of(name: &[u8], named: usize, message: &[u8])
+pub fn say_of(rt: &HostRuntime, name: &[u8], named: usize, message: &[u8])
     ensures { NothingPromised }
 {
     if named <= name.len() {
-        say(&name[..named], message);
+        say(rt, &name[..named], message);
     }
 }
 
 // The first n bytes of the text on standard output. Whether all of them were taken; where not, that has been said. A text of fewer bytes is not put:
 // it had too little room, which the bounds of the texts shut out.
-pub fn put(program: &[u8], text: &[u8], n: usize) -> bool
+pub fn put(rt: &HostRuntime, program: &[u8], text: &[u8], n: usize) -> bool
     ensures { result ≡ true → n ≤ length text.now }
 {
     if text.len() < n {
         say(
+            rt,
             program,
             b"standard output: no room for a text of this length",
         );
         return false;
     }
-    if io::write_all(libc::STDOUT_FILENO, &text[..n]) {
-        return true;
+    match rt.stdout().write_all(&text[..n]) {
+        Ok(()) => true,
+        Err(error) => {
+            let mut name = large_buffer();
+            let named = words::title(program, b"standard output", &mut name);
+            fail(rt, &name, named, error);
+            false
+        }
     }
-    let mut name = io::large_buffer();
-    let named = words::title(program, b"standard output", &mut name);
-    fail(&name, named);
-    false
+}
+
+// Whether there is such an argument. The program's own name is argument 0.
+pub fn is_given(rt: &HostRuntime, argument: usize) -> bool
+    ensures { NothingPromised }
+{
+    let mut word = [0u8; 1];
+    !matches!(rt.arg(argument, &mut word), Err(FillError::NotPresent))
 }
 
 // Whether an argument is there and is `--help`.
-fn is_help(argument: usize) -> bool {
+fn is_help(rt: &HostRuntime, argument: usize) -> bool {
     let mut word = [0u8; 16];
-    let n = os::arg(argument, &mut word);
-    if os::errno() != 0 {
-        return false;
+    match rt.arg(argument, &mut word) {
+        Ok(n) => words::is_help(&word[..n]),
+        Err(_) => false,
     }
-    words::is_help(&word[..n])
 }
 
 // Whether the only argument is `--help`. Then how the program is called has been put on standard output.
-pub fn helped(program: &[u8], usage: &[u8]) -> bool
+pub fn helped(rt: &HostRuntime, program: &[u8], usage: &[u8]) -> bool
     ensures { NothingPromised }
 {
-    if os::arg_count() != 2 {
+    if is_given(rt, 2) {
         return false;
     }
-    if !is_help(1) {
+    if !is_help(rt, 1) {
         return false;
     }
-    let mut line = io::large_buffer();
+    let mut line = large_buffer();
     let n = words::usage_line(usage, &mut line, 0);
-    put(program, &line, n);
+    put(rt, program, &line, n);
     true
 }
 
 // Whether standard input is meant: an argument that is `-`, or that there is not.
-pub fn is_standard_input(argument: usize) -> bool
+pub fn is_standard_input(rt: &HostRuntime, argument: usize) -> bool
     ensures { NothingPromised }
 {
-    if os::arg_count() <= argument {
-        return true;
-    }
     let mut word = [0u8; 16];
-    let n = os::arg(argument, &mut word);
-    if os::errno() != 0 {
-        return false;
+    match rt.arg(argument, &mut word) {
+        Ok(n) => words::is_dash(&word[..n]),
+        Err(FillError::NotPresent) => true,
+        Err(FillError::TooLong) => false,
     }
-    words::is_dash(&word[..n])
 }
 
 // The number that an argument is, as lists and captures write numbers. 1000, which three digits can't write, for an argument that is none, or is not
 // there.
-pub fn number(argument: usize) -> u16
+pub fn number(rt: &HostRuntime, argument: usize) -> u16
     ensures { NothingPromised }
 {
     let mut word = [0u8; 4];
-    let n = os::arg(argument, &mut word);
-    if os::errno() != 0 {
-        return words::NO_NUMBER;
+    match rt.arg(argument, &mut word) {
+        Ok(n) => words::number(&word[..n]),
+        Err(_) => words::NO_NUMBER,
     }
-    words::number(&word[..n])
 }
 
-// An input: the file's number, -1 where it can't be opened, which has been said; and how long its name is, the program's in front.
+// An input: what is read, none where it can't be opened, which has been said; and how long its name is, the program's in front.
 #[derive(Drop)]
 pub struct Input {
-    pub fd: i32,
+    pub source: Option<Source>,
     pub named: usize,
 }
 
+// Why an argument could not be had.
+fn no_argument(why: FillError) -> io::Error {
+    match why {
+        FillError::NotPresent => io::Error::from_raw_os_error(NO_SUCH_ARGUMENT),
+        FillError::TooLong => io::Error::from_raw_os_error(NAME_TOO_LONG),
+    }
+}
+
+// The file of this path. std opens a file by text alone, so that a path that is none is refused as the system would refuse it where it takes no other.
+fn open_path(rt: &HostRuntime, path: &[u8]) -> io::Result<File> {
+    match str::from_utf8(path) {
+        Ok(text) => File::open(rt, text),
+        Err(_) => Err(io::Error::from_raw_os_error(NO_TEXT)),
+    }
+}
+
 // The file that this argument names.
-fn open_file(program: &[u8], argument: usize, name: &mut [u8]) -> Input
+fn open_file(rt: &HostRuntime, program: &[u8], argument: usize, name: &mut [u8]) -> Input
     ensures { Opened result name.new }
 {
     // The longest path has 4,095 bytes.
     let mut path = [0u8; 4095];
-    let n = os::arg(argument, &mut path);
-    if os::errno() != 0 {
-        let named = words::title(program, b"the file's name", name);
-        fail(name, named);
-        return Input { fd: -1, named };
-    }
+    let n = match rt.arg(argument, &mut path) {
+        Ok(n) => n,
+        Err(why) => {
+            let named = words::title(program, b"the file's name", name);
+            fail(rt, name, named, no_argument(why));
+            return Input {
+                source: None,
+                named,
+            };
+        }
+    };
     let named = words::title(program, &path[..n], name);
-    let fd = os::open_read(&path[..n]);
-    if fd < 0 {
-        fail(name, named);
-        return Input { fd: -1, named };
+    match open_path(rt, &path[..n]) {
+        Ok(file) => Input {
+            source: Some(Source::File(file)),
+            named,
+        },
+        Err(error) => {
+            fail(rt, name, named, error);
+            Input {
+                source: None,
+                named,
+            }
+        }
     }
-    Input { fd, named }
 }
 
 // The file that an argument names; standard input where there is no such argument or where it is `-`. `name` is given what a message begins with
-// that is about this input, for `fail`: a message has to be composed before the call that may fail, since to fetch an argument sets errno.
-pub fn open_input(program: &[u8], argument: usize, name: &mut [u8]) -> Input
+// that is about this input, for `fail`.
+pub fn open_input(rt: &HostRuntime, program: &[u8], argument: usize, name: &mut [u8]) -> Input
     ensures { Opened result name.new }
 {
-    if !is_standard_input(argument) {
-        return open_file(program, argument, name);
+    if !is_standard_input(rt, argument) {
+        return open_file(rt, program, argument, name);
     }
     let named = words::title(program, b"standard input", name);
-    Input { fd: 0, named }
+    Input {
+        source: Some(Source::Standard(rt.stdin())),
+        named,
+    }
 }
