@@ -1,5 +1,6 @@
 -- What a call of read answers.
-use Rattle.std.specs.Prelude.{Option, Some, None, Result, Ok, Err, List, [], ◌∷◌, ◌++◌, ℕ, length, min, take}
+use Rattle.std.specs.Prelude.{Bool, Option, None, Result, is_err, List, [], ◌∷◌, ◌++◌, ℕ, length, min, take}
+use Rattle.std.specs.Result.{result_unwrap_or, result_err}
 use Rattle.std.specs.declared.io.Error.{Error}
 
 -- the number that it answers, or why it failed; and the buffer as it leaves it
@@ -10,24 +11,19 @@ pub record Answer : Type 0 where
 abbrev pub answer_of : Result ℕ Error → List ℕ → Answer
 answer_of got buffer = record { got = got; buffer = buffer }
 
-abbrev pub given : Result ℕ Error → ℕ
-given (Ok n) = n
-given (Err e) = 0
-
-abbrev pub why_not : Result ℕ Error → Option Error
-why_not (Ok n) = None
-why_not (Err e) = Some e
-
 -- how many bytes it gave: none where it failed
 abbrev pub count_of : Answer → ℕ
-count_of a = min (given a.got) (length a.buffer)
+count_of a = min (result_unwrap_or a.got 0) (length a.buffer)
 
 abbrev pub bytes_of : Answer → List ℕ
 bytes_of a = take (count_of a) a.buffer
 
--- the error, where it failed
+abbrev pub has_failed : Answer → Bool
+has_failed a = is_err a.got
+
+-- why it failed, where it did
 abbrev pub failure_of : Answer → Option Error
-failure_of a = why_not a.got
+failure_of a = result_err a.got
 
 -- ---- the answers to all calls, the last of them first
 

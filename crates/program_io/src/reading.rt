@@ -1,6 +1,6 @@
 // What is read: a file that is open, or standard input; and what a read came to.
 ghost use Rattle.std.specs.Prelude.{◌≡◌, ◌≤◌, length, IfOk};
-ghost use Rattle.program_io.specs.Answers.{answer_of, count_of, failure_of};
+ghost use Rattle.program_io.specs.Answers.{answer_of, count_of};
 
 use std::fs::File;
 use std::io;
@@ -26,20 +26,7 @@ pub fn count(got: io::Result<usize>, buf: &[u8]) -> usize
     ensures in_bounds { result ≤ length buf.now }
     ensures value { result ≡ count_of (answer_of got buf.now) }
 {
-    match got {
-        Ok(n) => n.min(buf.len()),
-        Err(_) => 0,
-    }
-}
-
-// Why a read failed, where it did.
-pub fn failure(got: io::Result<usize>, buf: &[u8]) -> Option<io::Error>
-    ensures { result ≡ failure_of (answer_of got buf.now) }
-{
-    match got {
-        Ok(_) => None,
-        Err(error) => Some(error),
-    }
+    got.unwrap_or(0).min(buf.len())
 }
 
 // Reads until the buffer is full or the input ends, and gives how many bytes that were; or the error of the first read that fails.
