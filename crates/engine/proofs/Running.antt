@@ -14,7 +14,6 @@ use Rattle.registers.specs.State.{State, state}
 use Rattle.commands.specs.declared.answer.CommandAnswer.{CommandAnswer}
 use Rattle.commands.specs.declared.answer.CommandAnswer.TheVariants.{Unknown, OutOfRange}
 use Rattle.display_bytes.specs.Stretch.{room_for}
-use Rattle.phases.specs.Interface.{whole}
 use Rattle.engine.specs.Event.{counts_as}
 use Rattle.engine.specs.PastEntry.{refusal_past_entry, run_past_entry, tally_past_entry}
 use Rattle.engine.specs.Run.{outcome, unless_stopped, count_unless}

@@ -1,6 +1,7 @@
 -- One bus event (document 01, "Bus events", and 1 to 4 of "Numbers given back"; 16 of document 02, W8).
 use Rattle.std.specs.Prelude.{Bool, true, false, cond, not, ◌&&◌, List, ◌≡◌, ℕ, zero, suc, ◌+◌, ◌-◌, ◌^◌, eqb, ltb, length, set}
 use Rattle.registers.specs.declared.Chip.{Chip}
+use Rattle.registers.specs.declared.PixelCounts.{PixelCounts}
 use Rattle.registers.specs.declared.Phase.{Phase}
 use Rattle.registers.specs.declared.Phase.TheVariants.{Idle, AddressAwaited, Ignoring, ControlAwaited, OneByte, EndlessBytes, Reading, ReadEnded}
 use Rattle.registers.specs.Record.{allowed, phase_rs, in_phase, with_registers, with_pixels}
@@ -38,6 +39,10 @@ is_display_byte e p = ltb e 256 && phase_rs p
 unfoldable pub pixel_refusal : ℕ → Chip → List ℕ → ℕ
 pixel_refusal e c m = refuse (is_display_byte e c.phase && not (pixels_fit c.registers c.pixels m e)) 16
 
+-- the pixels by value after event e: a display byte mends them, and no other event changes them
+abbrev pub pixels_upon : ℕ → Chip → List ℕ → PixelCounts
+pixels_upon e c m = cond (is_display_byte e c.phase) (pixels_after c.registers c.pixels m e) c.pixels
+
 unfoldable pub refusal_of : ℕ → State → ℕ
 refusal_of e s = entry_refusal s then event_refusal e s.count then pixel_refusal e s.chip s.memory
 
@@ -59,6 +64,10 @@ after a c m w n = record { answer = a; state = Rattle.registers.specs.State.stat
 -- this answer and this chip, with both memories and the count as they were
 abbrev pub nothing_stored : Answer → Chip → State → After
 nothing_stored a c s = after a c s.memory s.writers s.count
+
+-- the same outcome but with the pixels by value as they were: the code mends them in a place of its own
+abbrev pub unmended : PixelCounts → After → After
+unmended n a = after a.answer (with_pixels a.state.chip n) a.state.memory a.state.writers a.state.count
 
 -- ---- a byte from the master
 

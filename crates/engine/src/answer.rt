@@ -1,6 +1,6 @@
 // What the bus gives back for an event.
 ghost use Rattle.std.specs.Prelude.{◌≡◌};
-ghost use Rattle.engine.specs.Event.{number_of};
+ghost use Rattle.engine.specs.Event.{number_of, counts_as};
 
 use commands::answer::CommandAnswer;
 
@@ -28,6 +28,20 @@ impl Answer {
             Answer::NotAcknowledged => 258,
             Answer::Command(answer) => answer.number(),
             Answer::Read(b) => 512 + b as u64,
+        }
+    }
+
+    // 1 where it is this answer to a command, 0 where it is another answer.
+    pub fn counts_as(self, one: CommandAnswer) -> usize
+        ensures { result ≡ counts_as one self }
+    {
+        match self {
+            Answer::Refused(_) => 0,
+            Answer::Nothing => 0,
+            Answer::Acknowledged => 0,
+            Answer::NotAcknowledged => 0,
+            Answer::Command(answer) => answer.counts(one),
+            Answer::Read(_) => 0,
         }
     }
 }
