@@ -1,0 +1,22 @@
+use native.Mathlib.Omega.{arith}
+use Rattle.print.proofs.Writing.{wrote-next, parts-turn, parts-end}
+use Rattle.picture.proofs.CodeWays.{pixmap-wrote}
+use borrow.Author.Rules.{rules}
+use Rattle.picture.proofs.pixels.Goals as goal
+
+pub loop-k-init : goal.loop-k-init
+loop-k-init c = (search rules, wrote-next c.bytes-at.ensures, search rules, λ l j w. w)
+
+pub loop-k-preserved : goal.loop-k-preserved
+loop-k-preserved c = (
+  search rules,
+  wrote-next c.pixel_at-at.ensures,
+  search rules,
+  λ l j w. c.loop-k.invariant.3 l j
+      (parts-turn _ _ _ c.loop-k-test.true (omega arith) c.pixel_at-at.ensures w),
+)
+
+pub returns : goal.returns
+returns c =
+    pixmap-wrote _ _ (omega arith) c.bytes-at.ensures
+    (c.loop-k.invariant.3 _ _ (parts-end _ _ _ _ _ (omega arith) c.loop-k-test.false))
