@@ -11,7 +11,7 @@ use Rattle.registers.specs.declared.Phase.TheVariants.{Idle, AddressAwaited, Con
 use Rattle.registers.specs.Encode.{row_byte}
 use Rattle.registers.specs.declared.PixelCounts.{PixelCounts}
 use Rattle.registers.specs.Record.{in_phase, with_registers, pixels, count_for}
-use Rattle.registers.specs.State.{State, state}
+use Rattle.registers.specs.State.{State}
 use Rattle.registers.proofs.TableTest.{row_no}
 use Rattle.registers.proofs.Within.{allowed-registers}
 use Rattle.pixel_counts.specs.Counts.{counts_of}
