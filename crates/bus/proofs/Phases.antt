@@ -7,7 +7,7 @@ use borrow.Author.Tests.{leb-true}
 use lib.Dec.{leb}
 use Rattle.registers.specs.declared.Phase.{Phase}
 use Rattle.registers.specs.declared.Phase.TheVariants.{Idle, AddressAwaited, Ignoring, ControlAwaited, OneByte, EndlessBytes, Reading, ReadEnded}
-use Rattle.registers.specs.State.{State, state}
+use Rattle.registers.specs.State.{State}
 use Rattle.registers.proofs.Below.{false-true}
 use Rattle.phases.specs.Changes.{controlled, pulsed, sensed}
 use Rattle.phases.specs.Phases.{is_addressed, phase_after_address, phase_after_control, phase_after_last_read}
