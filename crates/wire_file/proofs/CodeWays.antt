@@ -5,15 +5,15 @@ use mathlib.Core.Logic.{◌⊎◌, ⊎_elim}
 use mathlib.Core.Path.{◌≡◌, refl, sym, ap, ◌∙◌, subst}
 use Prim.Native.Nat.{ℕ, ◌+◌, ◌-◌, ◌<◌}
 use native.Mathlib.Omega.{arith}
-use borrow.Author.Tests.{ltb-true, ltb-false, not-true}
+use borrow.Author.Tests.{ltb-false, not-true}
 use lib.Dec.{T, ltb}
-use lib.IntN.{ℤ, pos, negsuc}
 use lib.ListN.{length, take}
-use lib.Signed.{lt_z}
-use Rattle.io.specs.Counts.{clamp_len}
+use Rattle.std.specs.Prelude.{Option, None, is_some, Result, Ok, Err, is_err, min}
+use Rattle.std.specs.Result.{result_unwrap_or, result_err}
+use Rattle.std.specs.declared.io.Error.{Error}
 use Rattle.print.specs.Printed.{Wrote}
 use Rattle.print.proofs.Writing.{wrote_none}
-use Rattle.program_io.specs.Answers.{Answer, answer_of, count_of, bytes_of, has_failed, text_of, last_failed, most_calls}
+use Rattle.program_io.specs.Answers.{Answer, answer_of, count_of, bytes_of, has_failed, text_of, last_failure, most_calls}
 use Rattle.wire_samples.specs.declared.Wires.{Wires}
 use Rattle.wire_samples.specs.Sample.{at_start}
 use Rattle.wire_samples.specs.Feed.{after_all, are_samples}
@@ -25,46 +25,48 @@ use Rattle.wire_file.specs.declared.Turn.{Turn}
 use Rattle.wire_file.specs.Answers.{text_given, after_answer, Turned, taken_in}
 use Rattle.wire_file.specs.Some.{TurnOfSome, Enough, none_given, refused_for_good, no_more_calls, CaptureOfSome}
 
--- ---- one answer; the number that was answered has gone through the bits of an `isize`
+-- ---- one answer
 
-none-counted : (z : ℤ) (n : ℕ) → lt_z z (pos 0) ≡ true → clamp_len z n ≡ 0
-none-counted (pos k) n h = absurd (omega (arith, ltb-true k 0 h))
-none-counted (negsuc k) n h = refl
+none-counted : (a : Answer) → has_failed a ≡ true → count_of a ≡ 0
+none-counted a h = go a.got h
+  where
+    go : (got : Result ℕ Error) → is_err got ≡ true → min (result_unwrap_or got 0) (length a.buffer) ≡ 0
+    go (Ok n) h = absurd (subst T (sym h) tt)
+    go (Err e) h = omega arith
 
-module _ (got z : ℤ) (same : z ≡ got) (buffer : List ℕ) (r : Reading) where
-  pub failed-turn :
-      lt_z z (pos 0) ≡ true → (l : List ℕ)
-      → (◌≡◌ {A = Turned} (record { after = r; more = false; failed = true }) (taken_in (answer_of got buffer) r))
-      × Wrote l 0 (text_given (answer_of got buffer) r) l 0
-  unfolding taken_in
-  failed-turn h l =
-      let failed : lt_z got (pos 0) ≡ true = rw (← same) h in
-      rw (failed, none-counted got (length buffer) failed) (refl, wrote_none l 0 (omega arith))
+pub failed-turn :
+    (got : Result ℕ Error) (buffer : List ℕ) (r : Reading) (failed : Option Error) → failed ≡ result_err got → is_some failed ≡ true → (l : List ℕ)
+    → (◌≡◌ {A = Turned} (record { after = r; more = false; failed = failed }) (taken_in (answer_of got buffer) r))
+    × Wrote l 0 (text_given (answer_of got buffer) r) l 0
+unfolding taken_in
+failed-turn (Ok n) buffer r failed e h l = absurd (subst T (sym (rw e at h)) tt)
+failed-turn (Err x) buffer r failed e h l =
+    let none : min 0 (length buffer) ≡ 0 = omega arith in
+    rw (e, none) (refl, wrote_none l 0 (omega arith))
 
-  pub given-turn :
-      lt_z z (pos 0) ≡ false → (n : ℕ) → n ≡ clamp_len z (length buffer) → (after : Reading) → after ≡ after_part r (take n buffer)
-      → (over : Bool) → over ≡ is_over after → {l m : List ℕ} {j : ℕ} → Wrote l 0 (part_text r (take n buffer)) m j
-      → (◌≡◌ {A = Turned} (record { after = after; more = ltb 0 n && not over; failed = false }) (taken_in (answer_of got buffer) r))
-      × Wrote l 0 (text_given (answer_of got buffer) r) m j
-  unfolding taken_in
-  given-turn h n en after ea over eo w =
-      let failed : lt_z got (pos 0) ≡ false = rw (← same) h in
-      let count : n ≡ clamp_len got (length buffer) = en ∙ ap (λ (y : ℤ). clamp_len y (length buffer)) same in
-      rw (failed, ← count) (rw (eo, ea) refl, w)
+pub given-turn :
+    (got : Result ℕ Error) (buffer : List ℕ) (r : Reading) (failed : Option Error) → failed ≡ result_err got → is_some failed ≡ false
+    → (n : ℕ) → n ≡ count_of (answer_of got buffer) → (after : Reading) → after ≡ after_part r (take n buffer)
+    → (over : Bool) → over ≡ is_over after → {l m : List ℕ} {j : ℕ} → Wrote l 0 (part_text r (take n buffer)) m j
+    → (◌≡◌ {A = Turned} (record { after = after; more = ltb 0 n && not over; failed = None }) (taken_in (answer_of got buffer) r))
+    × Wrote l 0 (text_given (answer_of got buffer) r) m j
+unfolding taken_in
+given-turn (Ok k) buffer r failed e h n en after ea over eo w = rw (← en) (rw (eo, ea) refl, w)
+given-turn (Err x) buffer r failed e h n en after ea over eo w = absurd (subst T (rw e at h) tt)
 
 -- ---- the loop
 
 -- what has been read since the start is what some answers gave: a part for each, but for one that failed
-pub record ReadSoFar (pins : ℕ) (r : Reading) (more failed : Bool) (turns : ℕ) : Type 0 where
+pub record ReadSoFar (pins : ℕ) (r : Reading) (more : Bool) (failed : Option Error) (turns : ℕ) : Type 0 where
   pub answers : List Answer
   pub parts : List (List ℕ)
   pub are-given : all_parts parts ≡ text_of answers
   pub is_read : r ≡ after_parts (start_of pins) parts
-  pub is_failed : failed ≡ last_failed answers
+  pub is_failed : failed ≡ last_failure answers
   pub is_enough : more ≡ false → Enough pins answers
   pub are-counted : length answers + turns ≡ most_calls
 
-pub begun : (pins : ℕ) (r : Reading) → r ≡ start_of pins → ReadSoFar pins r true false most_calls
+pub begun : (pins : ℕ) (r : Reading) → r ≡ start_of pins → ReadSoFar pins r true None most_calls
 begun pins r e =
     record {
       answers = [];
@@ -94,7 +96,7 @@ module _ (a : Answer) (ps : List (List ℕ)) where
   given-then = go (has_failed a) refl
     where
       go : (t : Bool) → has_failed a ≡ t → all_parts (cond t ps (ps ++ bytes_of a ∷ [])) ≡ all_parts ps ++ bytes_of a
-      go true e = sym (rw (none-counted a.got (length a.buffer) e) (append-nil (all_parts ps)))
+      go true e = sym (rw (none-counted a e) (append-nil (all_parts ps)))
       go false e = all_one ps (bytes_of a)
 
   read-then : (r q : Reading) → r ≡ after_parts q ps → after_answer a r ≡ after_parts q (parts_then ps a)
@@ -115,7 +117,7 @@ enough pins a before true true es eo h =
 enough pins a before true false es eo h = absurd (subst T h tt)
 
 pub turn-read :
-    {pins : ℕ} {r : Reading} {more failed : Bool} {turns : ℕ} {out₀ out : List ℕ} (t : Turn)
+    {pins : ℕ} {r : Reading} {more : Bool} {failed : Option Error} {turns : ℕ} {out₀ out : List ℕ} (t : Turn)
     → ReadSoFar pins r more failed turns → 0 < turns → TurnOfSome t out₀ out r
     → ReadSoFar pins t.told.reading t.more t.failed (turns - 1)
 unfolding taken_in
@@ -149,7 +151,7 @@ turn-read {pins} {r} t so_far left turn =
     over = ap is_over read ∙ over-in-parts pins parts ∙ ap (λ (l : List ℕ). not (are_samples l)) given
 
 pub all_read :
-    {pins : ℕ} {r : Reading} {more failed printed : Bool} {turns : ℕ} → ReadSoFar pins r more failed turns
+    {pins : ℕ} {r : Reading} {more printed : Bool} {failed : Option Error} {turns : ℕ} → ReadSoFar pins r more failed turns
     → (printed ≡ true → (more ≡ false) ⊎ (turns ≡ 0))
     → CaptureOfSome (record { unclear = r.wires.unclear; failed = failed; printed = printed }) pins
 all_read {pins} {r} so_far why =

@@ -2,7 +2,7 @@
 -- answers the unclear samples are those of exactly the bytes that they gave, and no later byte would change the capture.
 use Rattle.std.specs.Prelude.{true, List, ◌∷◌, ◌++◌, ◌≡◌, ℕ, length}
 use Rattle.print.specs.Printed.{Wrote}
-use Rattle.program_io.specs.Answers.{Answer, count_of, text_of, last_failed, most_calls}
+use Rattle.program_io.specs.Answers.{Answer, count_of, text_of, last_failure, most_calls}
 use Rattle.wire_samples.specs.Sample.{at_start}
 use Rattle.wire_samples.specs.Feed.{after_all}
 use Rattle.wire_text.specs.declared.Reading.{Reading}
@@ -32,5 +32,5 @@ pub data Enough (pins : ℕ) : List Answer → Type 0 where
 pub record CaptureOfSome (r : Captured) (pins : ℕ) : Type 0 where
   pub answers : List Answer
   pub is_unclear : r.unclear ≡ (after_all at_start (samples_in (text_of answers))).unclear
-  pub is_failed : r.failed ≡ last_failed answers
+  pub is_failed : r.failed ≡ last_failure answers
   pub is_enough : r.printed ≡ true → Enough pins answers
