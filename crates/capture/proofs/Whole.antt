@@ -9,7 +9,7 @@ use borrow.Author.Tests.{leb-true}
 use lib.Dec.{eqb, ltb}
 use lib.ListN.{length, get_or}
 use lib.Seq.{append_snoc}
-use Rattle.registers.specs.State.{State, state}
+use Rattle.registers.specs.State.{State}
 use Rattle.text.specs.declared.Number as numbers
 use Rattle.text.specs.declared.Number.TheVariants.{Value, Malformed}
 use Rattle.text.specs.Decimal.{number_of}
@@ -21,7 +21,7 @@ use Rattle.chip.specs.Runs.{onward}
 use Rattle.chip.proofs.Laws.{run-stays-fit}
 use Rattle.chip.proofs.RunOn.{run_none, run-then, run-counts}
 use Rattle.capture_lines.specs.declared.LineSoFar.{LineSoFar}
-use Rattle.capture_lines.specs.declared.LineSoFar.TheVariants.{First, Pins, Empty, Number, BadFirst, Bad}
+use Rattle.capture_lines.specs.declared.LineSoFar.TheVariants.{First, Pins, Empty, BadFirst, Bad}
 use Rattle.capture_lines.specs.Line.{newline, word}
 use Rattle.capture_lines.specs.SoFar.{is_pins, with_byte, with_bytes, pins_in, of_number, event_line}
 use Rattle.capture_lines.proofs.Digits.{event-line-kept}
@@ -130,7 +130,9 @@ events-fed (b ∷ bs) p s fit = go (eqb b newline) (split newline bs) (split-som
         ≡ play_from s.count (events_of (onto p (cond t ([] ∷ qs) (on_first b qs)))) s
     go t [] l h = absurd (omega arith)
     go true (q ∷ qs) l h = rw (append-nil p) (line-ended bs (events_of (q ∷ qs)) (λ s' f. h [] s' f) s fit p)
-    go false (q ∷ qs) l h = rw (event-line-kept p b) (h (p ++ b ∷ []) s fit ∙ rw (append_snoc p b q))
+    go false (q ∷ qs) l h =
+        rw (event-line-kept p b)
+        (h (p ++ b ∷ []) s fit ∙ ap (λ (l : List ℕ). play_from s.count (events_of (l ∷ qs)) s) (append_snoc p b q))
 
 -- ---- the first line
 
