@@ -20,7 +20,6 @@ use Rattle.registers.proofs.Encode.{above-div}
 use Rattle.registers.proofs.NamePieces.{name-bound}
 use Rattle.registers.proofs.Within.{both_left, both_right, register-bound}
 use Rattle.text.specs.Text.{bytes}
-use Rattle.print.specs.Chosen.{line}
 use Rattle.print.specs.Printed.{decimal_of}
 use Rattle.print.proofs.Digits.{decimal-bound}
 use Rattle.phases.specs.Phases.{rs_of}
@@ -34,8 +33,8 @@ use Rattle.engine.specs.declared.event.Event.{Event}
 use Rattle.engine.specs.declared.event.Event.TheVariants.{Byte, Start, Stop, ReadAcknowledged, ReadNotAcknowledged, Reset, Sensor, Unlisted}
 use Rattle.chip.proofs.Rectangles.{reversed-byte}
 use Rattle.event_words.specs.Line.{event_line}
-use Rattle.event_words.specs.Words.{direction, address_words, announced, control_words, display_words, field_words, fields_words, row_words, command_words}
-use Rattle.event_words.specs.Words.{content_words, byte_words, sensor_words, event_words, what_of, command_answer_words, answer_words}
+use Rattle.event_words.specs.Words.{direction, address_words, announced, display_words, field_words, fields_words, row_words, command_words}
+use Rattle.event_words.specs.Words.{content_words, byte_words, event_words, what_of, command_answer_words, answer_words}
 
 -- ---- a byte
 

@@ -1,8 +1,8 @@
 -- The fields of a row: those of its parts are those that the flat lists of the table have for it, in the same order.
 use mathlib.Core.Bool.{Bool, true, false, cond}
 use mathlib.Core.List.{List, [], ◌∷◌, ◌++◌, map, append_assoc, append-nil}
-use mathlib.Core.Path.{◌≡◌, refl, sym, ap, ap₂, ◌∙◌}
-use Prim.Native.Nat.{ℕ, zero, suc, ◌+◌, ◌%◌, ◌^◌, ◌≤◌, ◌<◌}
+use mathlib.Core.Path.{◌≡◌, refl, sym, ap₂, ◌∙◌}
+use Prim.Native.Nat.{ℕ, zero, suc, ◌+◌, ◌%◌, ◌^◌, ◌<◌}
 use native.Mathlib.Nat.{zero-add, add-zero, add-suc, suc-add}
 use native.Mathlib.Numerals.{add-one}
 use native.Mathlib.Omega.{arith}
@@ -11,7 +11,7 @@ use lib.Dec.{eqb}
 use lib.ListN.{get_or, drop, get_or-map}
 use lib.Seq.{drop-cons}
 use Rattle.registers.specs.declared.Registers.{Registers}
-use Rattle.registers.specs.Data.{target_number, parts_of, owners_from, part_rows, part_targets, part_lows, part_widths, place_of}
+use Rattle.registers.specs.Data.{target_number, parts_of, owners_from, part_rows, place_of}
 use Rattle.registers.specs.Places.{H}
 use Rattle.registers.specs.Record.{values}
 use Rattle.registers.specs.Table.{register, Part, part, Row, rows, no_row, above}
