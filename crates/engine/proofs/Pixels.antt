@@ -1,10 +1,10 @@
 -- The pixels by value over an event: true counts stay true and refuse nothing; counts of any kind change by a display byte alone.
-use mathlib.Core.Bool.{Bool, true, false, ◌&&◌}
+use mathlib.Core.Bool.{Bool, true, false, cond, ◌&&◌}
 use mathlib.Core.Path.{◌≡◌, refl, sym, ap, ◌∙◌, subst}
 use Prim.Native.Nat.{ℕ, ◌<◌}
 use native.Mathlib.Decide.{dec_lt}
 use native.Mathlib.Omega.{arith}
-use borrow.Author.Tests.{lt-ltb, le-ltb}
+use borrow.Author.Tests.{lt-ltb, le-ltb, ltb-true}
 use lib.Dec.{ltb}
 use lib.ListN.{get_or, length, set}
 use Rattle.registers.specs.declared.Phase.{Phase}
@@ -14,6 +14,7 @@ use Rattle.registers.specs.Record.{phase_rs}
 use Rattle.registers.specs.Refusals.{refuse}
 use Rattle.registers.specs.State.{State}
 use Rattle.registers.proofs.Below.{false-true}
+use Rattle.registers.proofs.Within.{both_left, both_right}
 use Rattle.pixel_counts.specs.Counts.{counts_of, TrueCounts}
 use Rattle.pixel_counts.specs.Mending.{mendable, mended}
 use Rattle.pixel_counts.proofs.Laws.{true-mendable, stays-true}
@@ -22,7 +23,7 @@ use Rattle.phases.specs.Changes.{controlled, pulsed, sensed}
 use Rattle.engine.specs.declared.event.Event.{Event}
 use Rattle.engine.specs.declared.event.Event.TheVariants.{Byte, Start, Stop, ReadAcknowledged, ReadNotAcknowledged, Reset, Sensor, Unlisted}
 use Rattle.engine.specs.Event.{event_of, is_byte}
-use Rattle.engine.specs.Step.{Fit, is_display_byte, pixel_refusal, content_of, on_byte, applied, accepted, counted}
+use Rattle.engine.specs.Step.{Fit, is_display_byte, pixel_refusal, pixels_upon, content_of, on_byte, applied, accepted, counted}
 use Rattle.engine.proofs.Allowed.{fit-place}
 use Rattle.engine.proofs.Events.{byte-event, other-event}
 
@@ -125,3 +126,32 @@ accepted-kept e s f =
     byte-number : Dec (e < 256) → is_byte (event_of e) ≡ ltb e 256
     byte-number (yes l) = ap is_byte (byte-event e l) ∙ sym (lt-ltb e 256 l)
     byte-number (no n) = other-event e (omega arith) ∙ sym (le-ltb e 256 (omega arith))
+
+-- ---- all of it: a display byte mends them, no other event changes them
+
+byte-upon : (p : Phase) (b : ℕ) (s : State) → phase_rs p ≡ true → (on_byte p b s).state.chip.pixels ≡ pixels_after s.chip.registers s.chip.pixels s.memory b
+byte-upon Idle b s t = absurd (false-true t)
+byte-upon AddressAwaited b s t = absurd (false-true t)
+byte-upon Ignoring b s t = absurd (false-true t)
+byte-upon ControlAwaited b s t = absurd (false-true t)
+byte-upon (OneByte true) b s t = refl
+byte-upon (OneByte false) b s t = absurd (false-true t)
+byte-upon (EndlessBytes true) b s t = refl
+byte-upon (EndlessBytes false) b s t = absurd (false-true t)
+byte-upon Reading b s t = absurd (false-true t)
+byte-upon ReadEnded b s t = absurd (false-true t)
+
+pub pixels-upon : (e : ℕ) (s : State) → (accepted e s).state.chip.pixels ≡ pixels_upon e s.chip s.memory
+unfolding accepted applied
+pixels-upon e s = go (is_display_byte e s.chip.phase) refl
+  where
+    mends : is_display_byte e s.chip.phase ≡ true → (accepted e s).state.chip.pixels ≡ pixels_after s.chip.registers s.chip.pixels s.memory e
+    mends t =
+        ap (λ (v : Event). (applied v (counted s)).state.chip.pixels) (byte-event e (ltb-true e 256 (both_left (ltb e 256) (phase_rs s.chip.phase) t)))
+        ∙ byte-upon s.chip.phase e (counted s) (both_right (ltb e 256) (phase_rs s.chip.phase) t)
+
+    go :
+        (t : Bool) → is_display_byte e s.chip.phase ≡ t
+        → (accepted e s).state.chip.pixels ≡ cond t (pixels_after s.chip.registers s.chip.pixels s.memory e) s.chip.pixels
+    go true q = mends q
+    go false q = accepted-kept e s q
