@@ -1,12 +1,9 @@
 -- Ways through the code, over plain variables.
 use mathlib.Core.Bool.{Bool, true, false, cond}
 use mathlib.Core.List.{List, [], ◌∷◌, ◌++◌, append-nil, append_assoc}
-use mathlib.Core.Logic.{inl, inr}
 use mathlib.Core.Path.{◌≡◌, refl, sym, ap, ◌∙◌, subst}
 use Prim.Native.Nat.{ℕ, zero, suc, ◌+◌, ◌<◌, ◌≤◌}
 use native.Mathlib.Omega.{arith}
-use denote.Enum.Declared.{tag_of}
-use types.Run.{OneOf}
 use borrow.Author.Tests.{eq-eqb}
 use lib.Dec.{eqb}
 use lib.ListN.{length, get_or, drop, drop_of_length-le, length-drop}
@@ -24,7 +21,6 @@ use Rattle.capture_lines.specs.declared.LineSoFar.TheVariants.{First, Pins, Empt
 use Rattle.capture_lines.specs.declared.Scanned.{Scanned}
 use Rattle.capture_lines.specs.Line.{newline}
 use Rattle.capture_lines.specs.SoFar.{with_byte, scanned_from}
-use Rattle.capture_lines.specs.contracts.LineSoFar.{the_type}
 use Rattle.capture.specs.Feeding.{Playing, playing, line_after, ended_line}
 use Rattle.event_words.specs.Line.{event_line}
 use Rattle.capture_trace.specs.declared.tally.Tally.{Tally}
@@ -111,22 +107,15 @@ pub end_known :
     → (p ≡ ended_line line s) × ((r ≡ tallied_over (done_at_end line s) t) × Wrote l i (told_lines told (done_at_end line s)) m j)
 end_known known s told t e h = rw e h
 
--- ---- a line that is no event's: variant 3 of the six is a number
+-- ---- a line that is no event's
 
-not_three : OneOf (0 ∷ 1 ∷ 2 ∷ 4 ∷ 5 ∷ []) 3 → ⊥
-not_three (inl e) = omega (arith, e)
-not_three (inr (inl e)) = omega (arith, e)
-not_three (inr (inr (inl e))) = omega (arith, e)
-not_three (inr (inr (inr (inl e)))) = omega (arith, e)
-not_three (inr (inr (inr (inr e)))) = omega (arith, e)
-
-pub no_event : (l : LineSoFar) (s : State) → OneOf (0 ∷ 1 ∷ 2 ∷ 4 ∷ 5 ∷ []) (tag_of the_type l) → done_at_end l s ≡ []
-no_event (First k) s t = refl
-no_event (Pins p) s t = refl
-no_event Empty s t = refl
-no_event (Number e) s t = absurd (not_three t)
-no_event BadFirst s t = refl
-no_event Bad s t = refl
+pub no_event : (l : LineSoFar) (s : State) → ((e : ℕ) → l ≡ Number e → ⊥) → done_at_end l s ≡ []
+no_event (First k) s h = refl
+no_event (Pins p) s h = refl
+no_event Empty s h = refl
+no_event (Number e) s h = absurd (h e refl)
+no_event BadFirst s h = refl
+no_event Bad s h = refl
 
 -- ---- the bytes of a part
 

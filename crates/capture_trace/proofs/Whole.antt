@@ -102,7 +102,9 @@ events-done (b ∷ bs) p s = go (eqb b newline) (split newline bs) (split-some n
         ≡ done_events (events_of (onto p (cond t ([] ∷ qs) (on_first b qs)))).events s
     go t [] l h = absurd (omega arith)
     go true (q ∷ qs) l h = rw (append-nil p) (line-done bs (events_of (q ∷ qs)) (λ s'. h [] s') s p)
-    go false (q ∷ qs) l h = rw (event-line-kept p b) (h (p ++ b ∷ []) s ∙ rw (append_snoc p b q))
+    go false (q ∷ qs) l h =
+        rw (event-line-kept p b)
+        (h (p ++ b ∷ []) s ∙ ap (λ (l : List ℕ). done_events (events_of (l ∷ qs)).events s) (append_snoc p b q))
 
 -- ---- the first line
 
