@@ -221,11 +221,11 @@ fn register_table(out: &mut [u8], at: usize) -> usize {
     next
 }
 
-fn main() {
+fn main(rt: HostRuntime) {
     // Less than 4,096 bytes.
-    let mut out = io::large_buffer();
+    let mut out = program_io::large_buffer();
     let mut next = command_table(&mut out, 0);
     next = order_table(&mut out, next);
     next = register_table(&mut out, next);
-    program_io::put(b"instructions", &out, next);
+    program_io::put(&rt, b"instructions", &out, next);
 }

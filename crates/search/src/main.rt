@@ -21,20 +21,20 @@ fn lines(page: Page, number: u8, out: &mut [u8], at: usize) -> usize {
     next
 }
 
-fn main() {
-    if program_io::helped(b"search", b"search") {
+fn main(rt: HostRuntime) {
+    if program_io::helped(&rt, b"search", b"search") {
         return;
     }
-    if 1 < os::arg_count() {
-        program_io::wrong_call(b"search", b"too many arguments", b"search");
+    if program_io::is_given(&rt, 1) {
+        program_io::wrong_call(&rt, b"search", b"too many arguments", b"search");
         return;
     }
     // 1,280 lines of at most 8 bytes each.
-    let mut out = io::large_buffer();
+    let mut out = program_io::large_buffer();
     let mut next = lines(Page::Function, 0, &mut out, 0);
     next = lines(Page::Display, 1, &mut out, next);
     next = lines(Page::Generator, 2, &mut out, next);
     next = lines(Page::Grey, 3, &mut out, next);
     next = lines(Page::Special, 4, &mut out, next);
-    program_io::put(b"search", &out, next);
+    program_io::put(&rt, b"search", &out, next);
 }

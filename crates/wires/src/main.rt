@@ -6,45 +6,47 @@
 
 mod unclear;
 
+use program_io::Input;
+
 const USAGE: [u8; 20] = *b"wires PINS [SAMPLES]";
 
-fn wrong_call(fault: &[u8]) {
-    program_io::wrong_call(b"wires", fault, &USAGE);
+fn wrong_call(rt: &HostRuntime, fault: &[u8]) {
+    program_io::wrong_call(rt, b"wires", fault, &USAGE);
 }
 
-fn capture(pins: u8) {
-    let mut name = io::large_buffer();
-    let input = program_io::open_input(b"wires", 2, &mut name);
-    if input.fd < 0 {
+fn capture(rt: &HostRuntime, pins: u8) {
+    let mut name = program_io::large_buffer();
+    let Input { source, named } = program_io::open_input(rt, b"wires", 2, &mut name);
+    let Some(mut source) = source else {
         return;
-    }
-    let captured = wire_file::capture(b"wires", input.fd, pins);
+    };
+    let captured = wire_file::capture(rt, b"wires", &mut source, pins);
     if !captured.printed {
         return;
     }
     // Those of the part that was read are told where reading failed behind it, too.
-    unclear::tell(captured.unclear);
-    if captured.failed {
-        program_io::fail(&name, input.named);
+    unclear::tell(rt, captured.unclear);
+    if let Some(error) = captured.failed {
+        program_io::fail(rt, &name, named, error);
     }
 }
 
-fn main() {
-    if program_io::helped(b"wires", &USAGE) {
+fn main(rt: HostRuntime) {
+    if program_io::helped(&rt, b"wires", &USAGE) {
         return;
     }
-    if os::arg_count() < 2 {
-        wrong_call(b"too few arguments");
+    if !program_io::is_given(&rt, 1) {
+        wrong_call(&rt, b"too few arguments");
         return;
     }
-    if 3 < os::arg_count() {
-        wrong_call(b"too many arguments");
+    if program_io::is_given(&rt, 3) {
+        wrong_call(&rt, b"too many arguments");
         return;
     }
-    let pins = program_io::number(1);
+    let pins = program_io::number(&rt, 1);
     if 3 < pins {
-        wrong_call(b"PINS is not 0, 1, 2 or 3");
+        wrong_call(&rt, b"PINS is not 0, 1, 2 or 3");
         return;
     }
-    capture(pins as u8);
+    capture(&rt, pins as u8);
 }

@@ -14,11 +14,11 @@ fn line(samples: u64, out: &mut [u8]) -> usize
 }
 
 // Nothing is said where there was none.
-pub fn tell(samples: u64) {
+pub fn tell(rt: &HostRuntime, samples: u64) {
     if samples == 0 {
         return;
     }
     let mut out = [0u8; 64];
     let length = line(samples, &mut out);
-    program_io::tell(&out, length);
+    program_io::tell(rt, &out, length);
 }
