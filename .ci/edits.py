@@ -1,15 +1,19 @@
-"""Looks at why the prover refused each must-fail edit, by the first error of its log.
+"""Looks at why the prover refused each must-fail edit, by the first refusal that rt tells of it.
 
 It has to stand at the edited place: in the proof of a function that was edited, or that names what was edited, or at a
 lemma that names it; a definition stands also for those that are built on it. And it has to be of a kind in FACTS.
-Errors that only follow from another one (`.. was not admitted`) are passed over. All else is a fault: a name out of
-scope, a proof file that names a fact which the edited code does not ask for, a definition that is refused itself, a
-log that gives no reason.
+rt passes over errors that only follow from another one (`.. was not admitted`) and over proof files that name a fact
+which the edited code does not ask for. All else is a fault: an edit that was not tried, a name out of scope, only such
+proof files, a limit of the prover, a definition that is refused itself.
 
 An edit `over_the_wall_..` is one of the compiler's wall: there a crate or a body that can't be had is the fact.
 
-    edits.py            the edits of all crates
-    edits.py CRATE..    those of these crates, after `rt must-fail`
+rt tells no more than the beginning of a refusal. Where that does not show the kind, or where it is one that a proof
+which merely does not fit gives too, and the edit does not keep the shape of the code, the edit is made in a copy and
+checked there, and the whole refusal is looked at.
+
+    edits.py LOG            the edits of all crates, by what rt ci or rt must-fail said; - is standard input
+    edits.py LOG CRATE..    those of these crates
 
 Not looked at is whether the fact is false: a proof that does not fit the edited crate is refused in the same words.
 """
@@ -19,12 +23,14 @@ import re
 import sys
 
 import project
+import trial
 
 Refusal = collections.namedtuple("Refusal", "path line text")
 
 FACTS = [
     ("two numbers are to be equal", r"the two types are `Path \S+ (\d+) (?!\1`)\d+`\s+\(expected\)"),
-    ("values break the goal", r"`omega`: the (goal|part `\S+` of the goal) does not follow .*the (goal|part) fails, at"),
+    ("values break the goal",
+     r"`omega`: the (goal|part `\S+` of the goal) does not follow .*the (goal|part) fails, at|; the facts known there allow "),
     ("the proof has another number",
      r"where one has `(\d+)`\s+\(expected\).*? and the other has `(?!\1`)\d+`\s+\(found\)"),
     ("a computed test is not true", r"expected type `T \(.*but this has type `Prim\.Unit"),
@@ -38,10 +44,17 @@ FACTS = [
 # Kinds that a proof which merely does not fit gives too. They count only of an edit that keeps the shape of the code, word for
 # word, with another name or number, or that says that a harmless twin of it was tried and is proved.
 UNSURE = ["nothing to rewrite", "the proof has another type"]
-NO_FACT = r"has no `Need-|is not a field of|not in scope|does not use the library|cannot be unfolded here"
-OTHER_FACT = r"expected type `[^`]*\bNeed-[^`]*`,?\s+but this has type `[^`]*\bNeed-"
+NO_FACT = (r"has no `|has no field|is not a field of|not in scope|does not use the library|cannot be had|"
+           r"cannot be unfolded here")
+OTHER_FACT = r"expected type `[^`]*\bGoals\.[^`]*`,?\s+but this has type `[^`]*\bGoals\."
 FOLLOWS = r"not admitted"
-WALL = r"does not use the library|cannot be unfolded here|this module may not unfold it|does not unfold here"
+TAKEN_AWAY = r"has no `|has no field|is not in scope"
+WALL = r"the module `\S+` cannot be had|cannot be unfolded here|this module may not unfold it|does not unfold here"
+
+# What rt says of an edit: its verdict, the crate and the edit, and the beginning of the first refusal.
+TRIED = re.compile(r"rt: must-fail (\w+)/(\S+)\.edit: (.*)")
+REFUSED = "refused, as it must be: "
+PLACE = re.compile(r"(note: )?(?:\./)?(\S+?)(?::(\d+):\d+)?: (?:error(?:\[[\w-]+\])?: |(?=it is not proved))")
 
 RUST_ITEM = re.compile(r"^ *(?:pub )?(?:extern \"C\" )?(?:fn|const|static|struct|enum|impl) (\w+)", re.M)
 LEMMA_ITEM = re.compile(r"^(?!--|use |pub use |unfolding |mod |pub mod )"
@@ -49,21 +62,36 @@ LEMMA_ITEM = re.compile(r"^(?!--|use |pub use |unfolding |mod |pub mod )"
 WORD = re.compile(r"[^\s(){}\[\],;:.`<>&|!]+")
 
 
+# The files that hold the proof of one function, in a directory of its name.
+PROOF_FILES = ["Proof.antt", "Answers.antt", "Invariants.antt"]
+
+
 def head(refusal):
     """The first line of what is said; those behind it have advice."""
     return refusal.text.split("\n")[0]
 
 
-def refusals(log, top):
-    """What the log refuses, in its order: errors, and behind them facts that no proof was found for."""
-    errors, notes = [], []
-    for entry in re.split(r"\n(?! )", log):
-        entry = entry.replace(f"{top}/", "")
-        if found := re.match(r"(\S+?)(?::(\d+):\d+)?: error: ", entry):
-            errors.append(Refusal(found[1], int(found[2] or 0), entry[found.end():]))
-        elif found := re.match(r"note: (\S+?):(\d+):\d+: (?=it is not proved)", entry):
-            notes.append(Refusal(found[1], int(found[2]), entry[found.end():]))
-    return [error for error in errors if not re.search(FOLLOWS, head(error))] + notes
+def refusal(entry):
+    """The refusal that an entry of a log tells, or None."""
+    found = PLACE.match(entry)
+    return found and Refusal(found[2], int(found[3] or 0), entry[found.end():])
+
+
+def refusals(log):
+    """What the log of a check refuses, in its order: errors, and behind them facts that no proof was found for.
+
+    As rt does, it passes over proof files that name what the edit took away, where something else is refused."""
+    entries = re.split(r"\n(?! )", log)
+    errors = [refusal(entry) for entry in entries if not entry.startswith("note: ")]
+    notes = [refusal(entry) for entry in entries if entry.startswith("note: ")]
+    told = [error for error in errors if error and not re.search(FOLLOWS, head(error))] + [note for note in notes if note]
+    return [one for one in told if not (one.path.startswith("proofs/") and re.search(TAKEN_AWAY, head(one)))] or told
+
+
+def tried(log):
+    """What rt says of each edit, by crate and name; before a line of the gate's own log stand seconds and a tab."""
+    found = (TRIED.fullmatch(re.sub(r"^\d+\t", "", line)) for line in log.splitlines())
+    return {(match[1], match[2]): match[3] for match in found if match}
 
 
 def items(text, pattern):
@@ -92,16 +120,6 @@ def at_line(path, line):
     return item_at(path, len("".join(lines[:line])) - 1)
 
 
-def changes(edit):
-    """The files that an edit changes, each with the text that goes."""
-    file = ""
-    for line in edit.read_text().splitlines():
-        if line.startswith("file: "):
-            file = line[len("file: "):]
-        elif line.startswith("old: "):
-            yield file, line[len("old: "):]
-
-
 def keeps_shape(edit):
     """Whether each text of an edit of code differs from the one it replaces in names and numbers alone."""
     text = edit.read_text()
@@ -117,7 +135,7 @@ def keeps_shape(edit):
 def edited(crate, edit):
     """The names of the declarations that an edit changes, by file."""
     names = collections.defaultdict(set)
-    for file, old in changes(edit):
+    for file, old, _ in trial.replacements(edit):
         text = (crate / file).read_text()
         place = text.find(old)
         names[file].add(item_at(crate / file, place + len(old) - len(old.lstrip())))
@@ -141,7 +159,7 @@ def touched(crate, names, files):
 def stands_at(copy, refusal, names):
     """Whether the error is at what the edit touches, given the names of the edited declarations."""
     path = copy / refusal.path
-    in_proof = path.name == "Proof.antt"
+    in_proof = path.name in PROOF_FILES
     if refusal.path.split("/")[0] not in ("src", "proofs") or not (in_proof or path.is_file()):
         return False
     definitions = list((copy / "specs").rglob("*.antt"))
@@ -149,37 +167,69 @@ def stands_at(copy, refusal, names):
     return (path.parent.name.lstrip("+") if in_proof else at_line(path, refusal.line)) in names
 
 
-def judged(crate, edit, copy, log):
-    """(kind, None), or (None, what is wrong): of the edit of this crate, whose edited copy gave this log."""
-    found = refusals(log, copy)
-    if not found:
-        return None, "the log gives no reason for the refusal"
-    first = found[0]
+def judged(crate, edit, copy, first, is_whole):
+    """(kind, None), or (None, what is wrong): of the edit of this crate, whose edited copy is first refused so.
+
+    (None, None) where the beginning of a refusal does not tell."""
     shown = f"{first.path}:{first.line}: {first.text[:300]}"
     names = edited(crate, edit)
     if edit.stem.startswith("over_the_wall_"):
-        good = first.path in names and re.search(WALL, first.text)
-        return ("the wall", None) if good else (None, f"not refused by the wall: {shown}")
+        if first.path in names and re.search(WALL, first.text):
+            return "the wall", None
+        return None, f"not refused by the wall: {shown}" if is_whole else None
     if re.search(NO_FACT, head(first)) or re.search(OTHER_FACT, first.text):
         return None, f"no fact: {shown}"
     kind = next((kind for kind, pattern in FACTS if re.search(pattern, first.text, re.S)), None)
-    if kind is None:
-        return None, f"of no known kind: {shown}"
     if not stands_at(copy, first, set().union(*names.values()) - {""}):
         return None, f"not at what was edited: {shown}"
-    if kind in UNSURE and not keeps_shape(edit) and "twin" not in edit.read_text():
+    unsure = kind in UNSURE and not keeps_shape(edit) and "twin" not in edit.read_text()
+    if (kind is None or unsure) and not is_whole:
+        return None, None
+    if kind is None:
+        return None, f"of no known kind: {shown}"
+    if unsure:
         return None, f"the code has another shape, and no harmless twin is named: {shown}"
     return kind, None
 
 
-def main(names):
+def edited_copy(crate, edit, copy):
+    """The crate with the edit, in that directory."""
+    trial.copy_crate(crate.name, copy)
+    for _ in trial.make(edit, copy):
+        pass
+
+
+def whole(crate, edit, first):
+    """All of the refusal that rt tells the beginning of, by a check of a copy."""
+    with trial.room() as to:
+        trial.copy_project(crate.name, to)
+        copy = to / "crates" / crate.name
+        for _ in trial.make(edit, copy):
+            pass
+        found = refusals(trial.check(crate.name, to)[1])
+    return next((one for one in found if (one.path, one.line) == (first.path, first.line)), first)
+
+
+def judged_by(said, crate, edit):
+    """The same by what rt said of the edit; a refusal that it tells too little of is looked at in whole."""
+    if not said.startswith(REFUSED):
+        return None, f"not refused by a fact: {said or 'the log says nothing of it'}"
+    first = refusal(said[len(REFUSED):])
+    if not first:
+        return None, "the log gives no reason for the refusal"
+    with trial.room() as copy:
+        edited_copy(crate, edit, copy)
+        found = judged(crate, edit, copy, first, is_whole=False)
+        return found if any(found) else judged(crate, edit, copy, whole(crate, edit, first), is_whole=True)
+
+
+def judge_all(log, names):
     kinds, faults, number = collections.Counter(), [], 0
+    known = tried(log)
     for name in names:
         crate = pathlib.Path("crates", name)
         for edit in sorted(crate.glob("must-fail/*.edit")):
-            copy = pathlib.Path("target/must-fail", name, edit.stem).absolute()
-            log = copy / ".log"
-            kind, fault = judged(crate, edit, copy, log.read_text(errors="replace") if log.is_file() else "")
+            kind, fault = judged_by(known.get((name, edit.stem), ""), crate, edit)
             number += 1
             kinds[kind] += 1
             faults += [f"{edit}: {fault}"] if fault else []
@@ -189,5 +239,12 @@ def main(names):
           "fact from an unfit proof, the edit keeps the code's shape or names a harmless twin")
 
 
+def main(words):
+    if not words:
+        sys.exit("usage: edits.py LOG [CRATE..]")
+    log = sys.stdin.read() if words[0] == "-" else pathlib.Path(words[0]).read_text(errors="replace")
+    judge_all(log, words[1:] or project.crates())
+
+
 if __name__ == "__main__":
-    main(sys.argv[1:] or project.crates())
+    main(sys.argv[1:])

@@ -3,15 +3,20 @@ import pathlib
 import sys
 
 
+def lines():
+    """The lines of crates.txt that name a crate, without comments."""
+    found = (line.partition("#")[0] for line in pathlib.Path("crates.txt").read_text().splitlines())
+    return [line for line in found if ":" in line]
+
+
+def name_of(line):
+    """The crate's name: behind it a line may say what is built of it, as `staticlib`."""
+    return line.partition(":")[0].split()[0]
+
+
 def crates():
     """Each listed crate's name with the list of what it depends on."""
-    found = {}
-    for line in pathlib.Path("crates.txt").read_text().splitlines():
-        line = line.partition("#")[0]
-        name, colon, deps = line.partition(":")
-        if colon:
-            found[name.strip()] = deps.split()
-    return found
+    return {name_of(line): line.partition(":")[2].split() for line in lines()}
 
 
 def finish(what, faults):

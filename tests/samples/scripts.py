@@ -114,7 +114,7 @@ def refused(calls, project, room):
     name = f"{SMALL}/{edit.removesuffix('.edit')}"
     said = calls.expect([os.path.join(project, "samples/break"), edit], 0, directory=os.path.join(project, below),
                         TMPDIR=room, out=f"\nThe edit {name} was refused, as it must be.",
-                        error=f"samples/break: checking {SMALL} with this edit\n")
+                        error=f"samples/break: {SMALL} is proved\nsamples/break: checking {SMALL} with this edit\n")
     for words in (f"The edit {name}: ", f"\ncrates/{SMALL}/", "\n  - ", "\n  + ", f"\nRefused at crates/{SMALL}/",
                   "\n  fact: ", "\nThe prover says:\n  "):
         calls.made += 1
@@ -152,22 +152,26 @@ def two_crates(to):
 MADE = "The edit above/two: one is 1\ncrates/above/src/lib.rt, line 2\n  - 1\n  + 2\n"
 REFUSED = ("Refused at crates/above/src/lib.rt:1\n  function: one\n  fact: returns\nThe prover says:\n"
            "  it is not proved that one is 1 (`returns`)\nThe edit above/two was refused, as it must be.\n")
-CHECKING = "samples/break: below tried\nsamples/break: checking above with this edit\n"
+PROVED = "samples/break: below is proved\nsamples/break: above is proved\n"
+CHECKING = PROVED + "samples/break: checking above with this edit\n"
 
 
 def breaks_above(calls):
-    """What a crate stands on is proved first, in the project. An edit that is not refused is told as an error."""
-    note = "note: $PWD/crates/above/src/lib.rt:1:1: it is not proved that one is 1 (\\`returns\\`)"
+    """The crate and what it stands on are proved first, in the project. An edit that is not refused is told as an error."""
+    note = "note: src/lib.rt:1:1: it is not proved that one is 1 (\\`returns\\`)"
+    of = "echo 'crate %s: modules loaded=1 checked=2'"
     with tempfile.TemporaryDirectory() as project:
         two_crates(project)
-        for check, dev, status, out, error in (
+        for proved, refused, status, out, error in (
                 (0, 1, 0, MADE + REFUSED, CHECKING),
                 (0, 0, 1, MADE, CHECKING + "samples/break: above/two was NOT refused: above is still proved with it\n"),
-                (1, 1, 1, "The edit above/two: one is 1\n", "samples/break: below tried\nsamples/break: what above stands on is "
-                 "not proved (status 1): rt: below tried\n")):
-            script(os.path.join(project, "bin/rt"), f"[ \"$1\" = dev ] || {{ echo 'rt: below tried'; exit {check}; }}",
-                   "grep -q '^    2$' crates/above/src/lib.rt && [ -d crates/below ] || exit 3",
-                   f"[ {dev} = 0 ] || echo \"{note}\"", f"[ {dev} = 0 ] || echo logic=not-proved", f"exit {dev}")
+                (1, 1, 1, "The edit above/two: one is 1\n", "samples/break: below is NOT PROVED\nsamples/break: above is not "
+                 "proved as it stands (status 1): crate below: modules loaded=1 checked=2\nlogic=not-proved\n")):
+            script(os.path.join(project, "bin/rt"), "[ \"$*\" = check ] && [ \"${PWD##*/}\" = above ] || exit 3",
+                   f"case $PWD in {project}/*)", of % "below", f"[ {proved} = 0 ] || {{ echo logic=not-proved; exit 1; }}",
+                   "echo logic=proved", of % "above", "echo logic=proved", "exit 0 ;;", "esac",
+                   "grep -q '^    2$' src/lib.rt && [ -d ../below ] && [ -f ../../crates.txt ] || exit 3",
+                   f"[ {refused} = 0 ] || echo \"{note}\"", f"[ {refused} = 0 ] || echo logic=not-proved", f"exit {refused}")
             calls.expect([os.path.join(project, "samples/break"), "above/two"], status, out=out, error=error,
                          PATH=f"{project}/bin:{os.environ['PATH']}")
 
