@@ -6,7 +6,7 @@
  *
  * Build and run, from the project's root:
  *
- *   rt staticlib host && gcc -Iinclude examples/four_glasses.c target/staticlib/libhost.a -o target/four_glasses
+ *   tools/build host && gcc -Iinclude examples/four_glasses.c target/staticlib/libhost.a -o target/four_glasses
  *   target/four_glasses
  */
 #include "pcf8820.h"

@@ -4,7 +4,7 @@
  *
  * Build and run, from the project's root:
  *
- *   rt staticlib host && gcc -Iinclude examples/host.c target/staticlib/libhost.a -o target/example
+ *   tools/build host && gcc -Iinclude examples/host.c target/staticlib/libhost.a -o target/example
  *   target/example
  */
 #include "pcf8820.h"

@@ -6,7 +6,7 @@
  *
  * Build and run, from the project's root:
  *
- *   rt staticlib host && gcc -Iinclude examples/wires.c target/staticlib/libhost.a -o target/wires
+ *   tools/build host && gcc -Iinclude examples/wires.c target/staticlib/libhost.a -o target/wires
  *   target/wires
  */
 #include "pcf8820.h"

@@ -1,5 +1,5 @@
 """The scripts that run a program or the library, and have rt make it where it is not there: samples/run and
-examples/run.
+examples/run; and tools/build, which both ask for it.
 """
 import os
 import shutil
@@ -90,29 +90,42 @@ def shown_at_once(calls, words, line, sign, **variables):
     calls.hold(process.wait() == 0 and os.path.exists(sign), f"{words}: {line!r} does not come while rt runs: {out}")
 
 
+def project_of(to, *parts):
+    """A part of the project, with what proves and makes things in it."""
+    for part in (*parts, "tools/build"):
+        if os.path.isdir(part):
+            shutil.copytree(part, os.path.join(to, part))
+        else:
+            os.makedirs(os.path.dirname(os.path.join(to, part)), exist_ok=True)
+            shutil.copy(part, os.path.join(to, part))
+
+
+# What rt says of a crate that it proves, and of one that it does not.
+PROVED = "echo 'crate text: modules loaded=1 checked=2'; echo 'logic=proved functions=13'"
+UNPROVED = "echo 'crate capture: modules loaded=1 checked=2'; echo 'logic=not-proved'"
+
+
 def first_runs(calls, programs):
     """Where the program is not there, rt is asked for it: here something that goes by its name."""
     with tempfile.TemporaryDirectory() as project:
-        for name in ("run", "stray.capture"):
-            os.makedirs(os.path.join(project, "samples"), exist_ok=True)
-            shutil.copy(f"samples/{name}", os.path.join(project, "samples"))
+        project_of(project, "samples/run", "samples/stray.capture", "crates/replay/src/main.rt")
         rt, path = os.path.join(project, "bin/rt"), f"{project}/bin:{os.environ['PATH']}"
         environment = {"PATH": path, "PROGRAMS": ""}
         run = [os.path.join(project, "samples/run")]
-        log = os.path.join(project, "target/samples-run.log")
+        making = "samples/run: proving and making replay, a line for each crate; this takes some minutes\n"
 
-        script(rt, "echo 'rt: text proved (9 s)'", "echo 'a fact of it'", "echo 'rt: FAILED: capture' >&2", "exit 1")
-        calls.expect(run, 1, error="samples/run: proving and making replay, a line for each crate; this takes about three "
-                     "minutes\nsamples/run: text proved (9 s)\nsamples/run: FAILED: capture\n"
-                     f"samples/run: replay could not be made; {log} says why\n", **environment)
-        with open(log) as file:
-            calls.hold("a fact of it" in file.read(), f"{log} does not have what rt said")
-        calls.expect(run, 1, error="samples/run: there is no rt on the path, which proves and makes replay\n",
-                     PATH=tools(f"{project}/tools", "dirname"), PROGRAMS="")
+        script(rt, PROVED, "echo 'a fact of it'", UNPROVED, "exit 1")
+        calls.expect(run, 1, error=f"{making}tools/build: text is proved\ntools/build: capture is NOT PROVED\n"
+                     "tools/build: replay could not be made; target/build/replay.log says why\n"
+                     "samples/run: replay could not be made\n", **environment)
+        with open(os.path.join(project, "target/build/replay.log")) as file:
+            calls.hold("a fact of it" in file.read(), "target/build/replay.log does not have what rt said")
+        calls.expect(run, 1, error=f"{making}tools/build: there is no rt on the path, which proves and makes replay\n"
+                     "samples/run: replay could not be made\n", PATH=tools(f"{project}/path", "dirname"), PROGRAMS="")
         sign = os.path.join(project, "sign")
-        script(rt, "[ \"$*\" = 'check replay' ] || exit 1", "echo 'rt: text proved (9 s)'", waits_for(sign),
-               f"mkdir -p target/bin && cp '{programs}/replay' target/bin")
-        shown_at_once(calls, run, "samples/run: text proved (9 s)", sign, **environment)
+        script(rt, "[ \"$*\" = 'run -- --help' ] && [ \"${PWD##*/}\" = replay ] || exit 1", PROVED, waits_for(sign),
+               f"mkdir -p out && cp '{programs}/replay' out")
+        shown_at_once(calls, run, "tools/build: text is proved", sign, **environment)
         calls.expect(run, 0, out="The last write is event 65", **environment)
 
 
@@ -122,30 +135,54 @@ def first_runs(calls, programs):
 def examples(calls, archive):
     """Where the archive is not there, rt is asked for it: here something that goes by its name."""
     with tempfile.TemporaryDirectory() as project:
-        for part in ("examples", "include"):
-            shutil.copytree(part, os.path.join(project, part))
+        project_of(project, "examples", "include")
+        os.makedirs(os.path.join(project, "crates/host_c"))
         rt, path = os.path.join(project, "bin/rt"), f"{project}/bin:{os.environ['PATH']}"
         run = [os.path.join(project, "examples/run")]
         making = "examples/run: proving and making target/staticlib/libhost.a; this takes some minutes\n"
+        unmade = "examples/run: target/staticlib/libhost.a could not be made\n"
 
         calls.expect(run + ["--model", "--model"], 2, error="examples/run: too many arguments\n")
         calls.expect(run + ["--help"], 2, error="examples/run: unknown argument --help: --model or --make-stdout\n")
-        calls.expect(run, 1, PATH=tools(f"{project}/tools", "dirname", "mkdir"),
-                     error="examples/run: there is no rt on the path, which proves and makes target/staticlib/libhost.a\n")
-        script(rt, "echo 'rt: FAILED: host' >&2", "echo 'a fact of it'", "exit 1")
-        calls.expect(run, 1, error=making + "examples/run: FAILED: host\n"
-                     "examples/run: it could not be made; target/examples/archive.log says why\n", PATH=path)
-        with open(os.path.join(project, "target/examples/archive.log")) as file:
-            calls.hold("a fact of it" in file.read(), "target/examples/archive.log does not have what rt said")
+        calls.expect(run, 1, PATH=tools(f"{project}/path", "dirname", "mkdir"),
+                     error=making + "tools/build: there is no rt on the path, which proves and makes host\n" + unmade)
+        script(rt, UNPROVED, "echo 'a fact of it'", "exit 1")
+        calls.expect(run, 1, error=making + "tools/build: capture is NOT PROVED\n"
+                     "tools/build: host could not be made; target/build/host.log says why\n" + unmade, PATH=path)
+        with open(os.path.join(project, "target/build/host.log")) as file:
+            calls.hold("a fact of it" in file.read(), "target/build/host.log does not have what rt said")
         sign = os.path.join(project, "sign")
-        script(rt, "[ \"$*\" = 'staticlib host' ] || exit 1", "echo 'rt: host proved (9 s)'", waits_for(sign),
-               f"mkdir -p target/staticlib && cp '{archive}' target/staticlib/libhost.a")
-        shown_at_once(calls, run, "examples/run: host proved (9 s)", sign, PATH=path)
+        script(rt, "[ \"$*\" = lib ] && [ \"${PWD##*/}\" = host_c ] || exit 1", PROVED, waits_for(sign),
+               f"mkdir -p out && cp '{archive}' out/libhost_c.a")
+        shown_at_once(calls, run, "tools/build: text is proved", sign, PATH=path)
         calls.expect(run, 0, out="examples: as expected\n", PATH=path)
         for name in "wires", "four_glasses", "host":
             with open(os.path.join(project, f"examples/{name}.stdout"), "a") as file:
                 file.write(f"one line more of {name}\n")
             calls.expect(run, 1, out=f"< one line more of {name}", PATH=path)
+
+
+# ---- tools/build
+
+
+def builds(calls, programs):
+    """What rt ci has made is taken as it is; a program that is not there, and one that rt does not make, are told."""
+    with tempfile.TemporaryDirectory() as project:
+        project_of(project, "crates/replay/src/main.rt")
+        build, made = os.path.join(project, "tools/build"), os.path.join(project, "crates/replay/out/replay")
+        usage = "tools/build: usage: tools/build NAME.. or tools/build --made\n"
+        calls.expect([build], 1, error=usage)
+        calls.expect([build, "nothing"], 1, error="tools/build: there is no program nothing\n")
+        calls.expect([build, "--made"], 1, error="tools/build: crates/replay/out/replay is not there; rt ci makes it\n")
+        os.makedirs(os.path.dirname(made))
+        shutil.copy(os.path.join(programs, "replay"), made)
+        calls.expect([build, "--made"], 0, out="")
+        calls.expect([os.path.join(project, "target/bin/replay"), "--help"], 0, out="replay")
+        # an earlier one does not stand for one that could not be made
+        script(os.path.join(project, "bin/rt"), UNPROVED, "exit 1")
+        calls.expect([build, "replay"], 1, PATH=f"{project}/bin:{os.environ['PATH']}",
+                     error="tools/build: capture is NOT PROVED\ntools/build: replay could not be made; "
+                     "target/build/replay.log says why\n")
 
 
 def all_of(calls, programs, archive):
@@ -157,3 +194,4 @@ def all_of(calls, programs, archive):
     failing_replay(calls)
     first_runs(calls, programs)
     examples(calls, archive)
+    builds(calls, programs)
