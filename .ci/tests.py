@@ -12,7 +12,7 @@ import sys
 import time
 
 # What takes long comes first, so that the others run beside it.
-ARCHIVE = "rt staticlib host"
+ARCHIVE = "tools/build host"
 PARTS = ["tests/run programs", "tests/run model", "tests/run worked", "tests/run gate", "tests/sigrok/run"]
 PARTS_OF_ARCHIVE = ["tests/run host", "tests/run bus", "tests/run compile", "tests/run samples", "tests/run glass",
                     "tests/run wires", "examples/run"]

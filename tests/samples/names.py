@@ -68,7 +68,7 @@ def misplaced(path):
 def stands_on():
     """What each crate stands on, by crates.txt, without what docs/ARCHITECTURE.md leaves out."""
     lines = [line.split(":") for line in read("crates.txt").splitlines() if re.match(r"[a-z]", line)]
-    return {name: [word for word in rest.split() if word not in LEFT_OUT] for name, rest in lines}
+    return {name.split()[0]: [word for word in rest.split() if word not in LEFT_OUT] for name, rest in lines}
 
 
 def layers():
