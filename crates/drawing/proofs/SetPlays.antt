@@ -147,7 +147,7 @@ set-simple f n fits plain apart r page ok =
     other true g e h x y = refl
     other false g e h x y =
         put_other H 0 r g h ∙ sym (blank-at r g h x y)
-        ∙ sym (put_other f n (blank r) g (λ q. true-false (sym row.own_val ∙ ap (λ (k : ℕ). has_field k (parts_for f)) (sym q) ∙ e)))
+        ∙ sym (put_other f n (blank r) g (λ q. true-false (sym row.own ∙ ap (λ (k : ℕ). has_field k (parts_for f)) (sym q) ∙ e)))
 
     each : (g : ℕ) → g < 29 → (g ≡ H → ⊥) → (g ≡ X → ⊥) → (g ≡ Y → ⊥) → at done.after g ≡ at (put f n (blank r)) g
     each g l h x y = done.fields g h ∙ other (has_field g (parts_for f)) g refl h x y
