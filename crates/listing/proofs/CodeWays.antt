@@ -1,11 +1,8 @@
 -- Ways through the code, over plain variables: what is written part by part is the whole line, and the whole text.
-use mathlib.Core.Logic.{inl, inr}
 use mathlib.Core.Path.{◌≡◌, refl, sym, ap, ◌∙◌}
 use mathlib.Core.List.{List, [], ◌∷◌, ◌++◌, append_assoc}
 use Prim.Native.Nat.{ℕ, zero, suc, ◌≤◌}
 use native.Mathlib.Omega.{arith}
-use denote.Enum.Declared.{tag_of}
-use types.Run.{OneOf}
 use borrow.Author.Tests.{le-leb}
 use lib.ListN.{length}
 use Rattle.registers.specs.declared.Chip.{Chip}
@@ -18,7 +15,6 @@ use Rattle.print.proofs.Writing.{wrote_then, wrote-same, wrote-length}
 use Rattle.capture.specs.declared.End.{End}
 use Rattle.capture.specs.declared.End.TheVariants as ends
 use Rattle.capture.specs.Feeding.{meaning}
-use Rattle.capture.specs.contracts.End.{the_type}
 use Rattle.listing.specs.Listing.{cell, header, cell_text, line_at, listing_of, refused_of, listing_call}
 use Rattle.listing.specs.ReplayText.{refused_text, refused_call, text_of_replay, text_unless, replay_text_call}
 use Rattle.listing.proofs.Lines.{listing-parts}
@@ -89,20 +85,17 @@ refused-by-memories file ends.BadFirst m w out = refl
 refused-by-memories file (ends.Bad c n) m w out = refl
 refused-by-memories file (ends.Whole c n) m w out = refl
 
--- variant 3 of the four is none of the others
-pub not-whole : OneOf (0 ∷ 1 ∷ 2 ∷ []) 3 → ⊥
-not-whole (inl e) = omega (arith, e)
-not-whole (inr (inl e)) = omega (arith, e)
-not-whole (inr (inr e)) = omega (arith, e)
+-- an end that is no whole capture's
+abbrev pub NotWhole : End → Type 0
+NotWhole e = (c : Chip) (n : ℕ) → e ≡ ends.Whole c n → ⊥
 
--- an end that is no replay's, which the code knows by its variant
 pub refused_end :
-    (e : End) (m w out : List ℕ) → OneOf (0 ∷ 1 ∷ 2 ∷ []) (tag_of the_type e) → refused_call [] e out ≡ text_of_replay (meaning e m w) out
+    (e : End) (m w out : List ℕ) → NotWhole e → refused_call [] e out ≡ text_of_replay (meaning e m w) out
 unfolding refused_call meaning
 refused_end (ends.Refused k) m w out t = refl
 refused_end ends.BadFirst m w out t = refl
 refused_end (ends.Bad c n) m w out t = refl
-refused_end (ends.Whole c n) m w out t = absurd (not-whole t)
+refused_end (ends.Whole c n) m w out t = absurd (t c n refl)
 
 -- x is what the code found, k what the definition says
 pub text-refused : (x k : ℕ) (out : List ℕ) (text : Output) → x ≡ k → (x ≡ 0 → ⊥) → output (Refused x) out ≡ text_unless k out text
