@@ -7,11 +7,11 @@ use Prim.Native.Nat.{ℕ, ◌+◌, ◌-◌, ◌<◌}
 use native.Mathlib.Omega.{arith}
 use borrow.Author.Tests.{ltb-false, eqb-true}
 use lib.Dec.{T, eqb, ltb}
-use lib.IntN.{ℤ, pos}
 use lib.ListN.{length, take}
-use lib.Signed.{lt_z}
-use Rattle.io.specs.Counts.{clamp_len}
-use Rattle.program_io.specs.Answers.{Answer, answer_of, count_of, bytes_of, text_of, last_failed, most_calls}
+use Rattle.std.specs.Prelude.{Option, None, Result}
+use Rattle.std.specs.Result.{result_err}
+use Rattle.std.specs.declared.io.Error.{Error}
+use Rattle.program_io.specs.Answers.{Answer, answer_of, count_of, bytes_of, text_of, last_failure, most_calls}
 use Rattle.capture_lines.specs.SoFar.{is_refused}
 use Rattle.capture.specs.declared.Capture.{Capture}
 use Rattle.capture.specs.declared.End.{End}
@@ -24,21 +24,21 @@ use Rattle.capture_file.specs.declared.Turn.{Turn}
 use Rattle.capture_file.specs.Answers.{Turned, taken_in}
 use Rattle.capture_file.specs.Played.{TurnOfSome, Enough, none_given, refused_for_good, no_more_calls, ReplayOfSome}
 
--- the way through a turn; the number that was answered has gone through the bits of an `isize`
+-- the way through a turn
 pub taken :
-    (got z : ℤ) (buffer : List ℕ) (p : Playing) (f : PartFed) (n : ℕ) (over : Bool)
-    → z ≡ got → n ≡ clamp_len z (length buffer) → f ≡ feed_of (take n buffer) p → over ≡ is_over f
-    → ◌≡◌ {A = Turned} (record { after = f; more = ltb 0 n && not over; failed = lt_z z (pos 0) }) (taken_in (answer_of got buffer) p)
+    (got : Result ℕ Error) (buffer : List ℕ) (p : Playing) (f : PartFed) (n : ℕ) (over : Bool) (failed : Option Error)
+    → n ≡ count_of (answer_of got buffer) → failed ≡ result_err got → f ≡ feed_of (take n buffer) p → over ≡ is_over f
+    → ◌≡◌ {A = Turned} (record { after = f; more = ltb 0 n && not over; failed = failed }) (taken_in (answer_of got buffer) p)
 unfolding taken_in
-taken got z buffer p f n over ez en ef eo = rw (eo, ef, en, ez)
+taken got buffer p f n over failed en ex ef eo = rw (eo, ef, en, ex)
 
 -- ---- the loop
 
 -- what has been fed since the start is what some answers gave
-pub record FedSoFar (m₀ w₀ : List ℕ) (f : Fed) (m w : List ℕ) (more failed : Bool) (turns : ℕ) : Type 0 where
+pub record FedSoFar (m₀ w₀ : List ℕ) (f : Fed) (m w : List ℕ) (more : Bool) (failed : Option Error) (turns : ℕ) : Type 0 where
   pub answers : List Answer
   pub is-fed : fed f.refusal f.capture m w ≡ feed_of (text_of answers) (kept start_of m₀ w₀)
-  pub is_failed : failed ≡ last_failed answers
+  pub is_failed : failed ≡ last_failure answers
   pub not_refused : more ≡ true → f.refusal ≡ 0
   pub is_enough : more ≡ false → Enough m₀ w₀ answers
   pub are-counted : length answers + turns ≡ most_calls
@@ -57,7 +57,7 @@ is-over false h = absurd (subst T h tt)
 -- no byte yet: the memories have been tested
 pub begun :
     (m₀ w₀ m w : List ℕ) (c : Capture) (f : Fed) (over : Bool) → c ≡ start_of → fed f.refusal f.capture m w ≡ feed_of [] (kept c m₀ w₀)
-    → over ≡ is_over (fed f.refusal f.capture m w) → FedSoFar m₀ w₀ f m w (not over) false most_calls
+    → over ≡ is_over (fed f.refusal f.capture m w) → FedSoFar m₀ w₀ f m w (not over) None most_calls
 begun m₀ w₀ m w c f over ec ef eo =
     let here : fed f.refusal f.capture m w ≡ feed_of [] (kept start_of m₀ w₀) = ef ∙ ap (λ (d : Capture). feed_of [] (kept d m₀ w₀)) ec in
     record {
@@ -90,7 +90,7 @@ text-taken k c m w xs ys p z e =
     subst (λ (j : ℕ). feed_of ys (kept c m w) ≡ then_fed (fed j c m w) ys) (sym z) refl ∙ ap (λ (f : PartFed). then_fed f ys) e ∙ sym (cut-anywhere xs ys p)
 
 pub turn-fed :
-    {m₀ w₀ m w m' w' : List ℕ} {f : Fed} {more failed : Bool} {turns : ℕ} (t : Turn)
+    {m₀ w₀ m w m' w' : List ℕ} {f : Fed} {more : Bool} {failed : Option Error} {turns : ℕ} (t : Turn)
     → FedSoFar m₀ w₀ f m w more failed turns → 0 < turns → more ≡ true → TurnOfSome t m' w' (kept f.capture m w)
     → FedSoFar m₀ w₀ t.fed m' w' t.more t.failed (turns - 1)
 unfolding taken_in
@@ -127,14 +127,14 @@ turn-fed {m₀} {w₀} {m} {w} {m'} {w'} {f = f} t so_far left on turn =
     fed-now = text-taken f.refusal f.capture m w (text_of before) (bytes_of a) (kept start_of m₀ w₀) (so_far.not_refused on) so_far.is-fed
 
 pub turn-answers :
-    {m₀ w₀ m w m' w' : List ℕ} {f : Fed} {more failed : Bool} {turns : ℕ} (t : Turn) (so_far : FedSoFar m₀ w₀ f m w more failed turns) (left : 0 < turns)
+    {m₀ w₀ m w m' w' : List ℕ} {f : Fed} {more : Bool} {failed : Option Error} {turns : ℕ} (t : Turn) (so_far : FedSoFar m₀ w₀ f m w more failed turns) (left : 0 < turns)
     (on : more ≡ true) (turn : TurnOfSome t m' w' (kept f.capture m w)) → (turn-fed t so_far left on turn).answers ≡ turn.answer ∷ so_far.answers
 unfolding turn-fed
 turn-answers t so_far left on turn = refl
 
 -- what was fed comes to the replay of what the answers gave
 pub fed-replayed :
-    {m₀ w₀ m w : List ℕ} {f : Fed} {more failed : Bool} {turns : ℕ} (end : End) (so_far : FedSoFar m₀ w₀ f m w more failed turns)
+    {m₀ w₀ m w : List ℕ} {f : Fed} {more : Bool} {failed : Option Error} {turns : ℕ} (end : End) (so_far : FedSoFar m₀ w₀ f m w more failed turns)
     → end ≡ finish_of f.refusal f.capture → meaning end m w ≡ replay_of (text_of so_far.answers) m₀ w₀
 fed-replayed {m₀} {w₀} {m} {w} {f = f} end so_far e =
     ap (λ (n : End). meaning n m w) e
@@ -144,12 +144,12 @@ fed-replayed {m₀} {w₀} {m} {w} {f = f} end so_far e =
 
 -- and there was a reason to make no further call
 pub fed-enough :
-    {m₀ w₀ m w : List ℕ} {f : Fed} {more failed : Bool} {turns : ℕ} (so_far : FedSoFar m₀ w₀ f m w more failed turns)
+    {m₀ w₀ m w : List ℕ} {f : Fed} {more : Bool} {failed : Option Error} {turns : ℕ} (so_far : FedSoFar m₀ w₀ f m w more failed turns)
     → (more ≡ false) ⊎ (turns ≡ 0) → Enough m₀ w₀ so_far.answers
 fed-enough so_far why = ⊎_elim so_far.is_enough (λ z. no_more_calls so_far.answers (omega (arith, z, so_far.are-counted))) why
 
 pub all-fed :
-    {m₀ w₀ m w : List ℕ} {f : Fed} {more failed : Bool} {turns : ℕ} (end : End) → FedSoFar m₀ w₀ f m w more failed turns
+    {m₀ w₀ m w : List ℕ} {f : Fed} {more : Bool} {failed : Option Error} {turns : ℕ} (end : End) → FedSoFar m₀ w₀ f m w more failed turns
     → end ≡ finish_of f.refusal f.capture → (more ≡ false) ⊎ (turns ≡ 0) → ReplayOfSome (record { end = end; failed = failed }) m w m₀ w₀
 all-fed end so_far e why =
     record {

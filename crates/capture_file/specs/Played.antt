@@ -1,7 +1,7 @@
 -- What is promised of a capture that is read from a file. No contract can say which bytes a file holds, nor that the system was asked: for some
 -- answers the result is the replay of exactly the bytes that they gave, in the order in which they came, and no later byte would change it.
 use Rattle.std.specs.Prelude.{List, ◌∷◌, ◌++◌, ◌≡◌, ℕ, length}
-use Rattle.program_io.specs.Answers.{Answer, count_of, text_of, last_failed, most_calls}
+use Rattle.program_io.specs.Answers.{Answer, count_of, text_of, last_failure, most_calls}
 use Rattle.capture.specs.Feeding.{Playing, meaning}
 use Rattle.capture.specs.Replay.{replay_of}
 use Rattle.capture_file.specs.declared.Turn.{Turn}
@@ -26,5 +26,5 @@ pub data Enough (m w : List ℕ) : List Answer → Type 0 where
 pub record ReplayOfSome (r : Played) (m w m₀ w₀ : List ℕ) : Type 0 where
   pub answers : List Answer
   pub is_replay : meaning r.end m w ≡ replay_of (text_of answers) m₀ w₀
-  pub is_failed : r.failed ≡ last_failed answers
+  pub is_failed : r.failed ≡ last_failure answers
   pub is_enough : Enough m₀ w₀ answers

@@ -12,25 +12,28 @@ ghost use Rattle.capture_file.specs.Answers.{turned, taken_in};
 ghost use Rattle.capture_file.specs.Played.{TurnOfSome, ReplayOfSome};
 
 use capture::{Capture, End, Fed};
+use program_io::reading::Source;
+use std::io;
+use std::io::Read;
 
-// What the bytes of one read come to, whether there may be more to read, and whether that read failed.
+// What the bytes of one read come to, whether there may be more to read, and why that read failed, if it did.
 #[derive(Clone, Copy)]
 pub struct Turn {
     pub fed: Fed,
     pub more: bool,
-    pub failed: bool,
+    pub failed: Option<io::Error>,
 }
 
-// What was read comes to `end`; where `failed`, reading stopped with an error, and errno says which.
+// What was read comes to `end`; `failed` is the error with which reading stopped, if it did.
 #[derive(Clone, Copy)]
 pub struct Played {
     pub end: End,
-    pub failed: bool,
+    pub failed: Option<io::Error>,
 }
 
 // What a read answered, and the buffer that it was lent. One that failed gave no byte, and neither does one at the end of the input.
 pub fn take_in(
-    got: isize,
+    got: io::Result<usize>,
     buf: &[u8],
     capture: Capture,
     memory: &mut [u8],
@@ -39,37 +42,38 @@ pub fn take_in(
     ensures { turned result memory.new writers.new
         ≡ taken_in (answer_of got buf.now) (kept capture memory.old writers.old) }
 {
-    let n = io::count(got, buf);
+    let n = program_io::reading::count(got, buf);
+    let failed = got.err();
     let fed = capture::feed(capture, memory, writers, &buf[..n]);
     Turn {
         fed,
         more: (0 < n) & !capture::is_over(fed),
-        failed: got < 0,
+        failed,
     }
 }
 
 // One read. The buffer stands here, so that the loop knows nothing of it.
-fn read_once(fd: i32, capture: Capture, memory: &mut [u8], writers: &mut [u64]) -> Turn
+fn read_once(source: &mut Source, capture: Capture, memory: &mut [u8], writers: &mut [u64]) -> Turn
     ensures { TurnOfSome result memory.new writers.new (kept capture memory.old writers.old) }
 {
-    let mut buf = io::large_buffer();
-    let got = libc::read(fd, &mut buf);
+    let mut buf = program_io::large_buffer();
+    let got = source.read(&mut buf);
     take_in(got, &buf, capture, memory, writers)
 }
 
 // The capture in a file that is open. The memories are those that the events write; at the start of a capture they are lent as zeros. Nothing is
 // read where one of them has another length.
-pub fn play(fd: i32, memory: &mut [u8], writers: &mut [u64]) -> Played
+pub fn play(source: &mut Source, memory: &mut [u8], writers: &mut [u64]) -> Played
     ensures { ReplayOfSome result memory.new writers.new memory.old writers.old }
 {
     let mut fed = capture::feed(capture::start(), memory, writers, b"");
     let mut more = !capture::is_over(fed);
-    let mut failed = false;
+    let mut failed = None;
     // A proved loop needs a number that falls, and nothing says that an input ends. No run makes this many turns.
     let mut turns = u64::MAX;
     while 0 < turns && more {
         let capture = fed.capture;
-        let turn = read_once(fd, capture, memory, writers);
+        let turn = read_once(source, capture, memory, writers);
         fed = turn.fed;
         more = turn.more;
         failed = turn.failed;
