@@ -32,7 +32,7 @@ use Rattle.compiler.specs.declared.answer.Compiled.{Compiled}
 use Rattle.compiler.specs.declared.answer.Compiled.TheVariants.{Done, Refused, BadLine, Short}
 use Rattle.compiler.specs.declared.measure.Measured.{Measured}
 use Rattle.compiler.specs.declared.measure.Measured.TheVariants.{Fault, Whole}
-use Rattle.compiler.specs.Compile.{result, into_output, from_reading, compile_of, measure_from, measure_of, lines_of}
+use Rattle.compiler.specs.Compile.{answered, into_output, from_reading, compile_of, measure_from, measure_of, lines_of}
 use Rattle.compiler.specs.Promise.{Promise}
 use Rattle.compiler.proofs.Promise.{compile-draws}
 
@@ -248,7 +248,7 @@ accepted-list text ls e = reading-accepted 1 text ls e
 -- x is what the first pass found
 
 module _ (pins : ℕ) (q : Registers) (text : List ℕ) (x : Measured) (measured : x ≡ measure_of pins q (reading_of text)) where
-  pub bad-line : (out : List ℕ) (k i : ℕ) → x ≡ Fault k i → result (BadLine k i) out ≡ from_reading pins q (reading_of text) out
+  pub bad-line : (out : List ℕ) (k i : ℕ) → x ≡ Fault k i → answered (BadLine k i) out ≡ from_reading pins q (reading_of text) out
   bad-line out k i e = sym (ap (λ (r : Reading). from_reading pins q r out) (fault-known pins q (reading_of text) k i (sym e ∙ measured)))
 
   module _ (n b : ℕ) (e : x ≡ Whole n b) where
@@ -266,11 +266,11 @@ module _ (pins : ℕ) (q : Registers) (text : List ℕ) (x : Measured) (measured
       into-output : into_output (stream pins (lines_of (reading_of text)) q) out ≡ from_reading pins q (reading_of text) out
       into-output = sym (ap (λ (r : Reading). from_reading pins q r out) whole.good)
 
-      pub too_short : length out < n → result (Short n) out ≡ from_reading pins q (reading_of text) out
+      pub too_short : length out < n → answered (Short n) out ≡ from_reading pins q (reading_of text) out
       too_short h =
           let es = stream pins (lines_of (reading_of text)) q in
           let short : length out < length es = omega (arith, whole.count) in
-          ap (λ (z : ℕ). result (Short z) out) whole.count ∙ sym (rw (lt-leb (length es) (length out) short)) ∙ into-output
+          ap (λ (z : ℕ). answered (Short z) out) whole.count ∙ sym (rw (lt-leb (length es) (length out) short)) ∙ into-output
 
       module _ (room : n ≤ length out) where
         pub writable :
@@ -279,12 +279,12 @@ module _ (pins : ℕ) (q : Registers) (text : List ℕ) (x : Measured) (measured
 
         pub written :
             (out' : List ℕ) → out' ≡ sets out 0 (stream pins (lines_of (reading_of text)) q)
-            → result (Done n (9 * b)) out' ≡ from_reading pins q (reading_of text) out
+            → answered (Done n (9 * b)) out' ≡ from_reading pins q (reading_of text) out
         written out' h =
             let es = stream pins (lines_of (reading_of text)) q in
-            ap (λ (z : ℕ). result (Done z (9 * b)) out') whole.count
-            ∙ ap (λ (z : ℕ). result (Done (length es) (9 * z)) out') whole.bytes
-            ∙ ap (λ (z : List ℕ). result (Done (length es) (clocks_of es)) z) h
+            ap (λ (z : ℕ). answered (Done z (9 * b)) out') whole.count
+            ∙ ap (λ (z : ℕ). answered (Done (length es) (9 * z)) out') whole.bytes
+            ∙ ap (λ (z : List ℕ). answered (Done (length es) (clocks_of es)) z) h
             ∙ sym (rw (le-leb (length es) (length out) writable.1))
             ∙ into-output
 
@@ -303,9 +303,9 @@ readable c text ok counted few blanked = (
 module _ (c : Chip) (text out : List ℕ) where
   -- what is returned is what the definition says, and so draws the list
   abbrev Compiles : Compiled → List ℕ → Type 0
-  Compiles r out' = (result r out' ≡ compile_of c text out) × Promise r c text out'
+  Compiles r out' = (answered r out' ≡ compile_of c text out) × Promise r c text out'
 
-  promised : {r : Compiled} {out' : List ℕ} → result r out' ≡ compile_of c text out → Compiles r out'
+  promised : {r : Compiled} {out' : List ℕ} → answered r out' ≡ compile_of c text out → Compiles r out'
   promised {r} {out'} e = (e, compile-draws c text out r out' e)
 
   pub not_allowed : allowed c ≡ false → Compiles (Refused 2) out
@@ -319,7 +319,7 @@ module _ (c : Chip) (text out : List ℕ) where
 
     module _ (few : n ≤ 4096) {q : Registers} (blanked : q ≡ blank c.registers) where
       pub read :
-          (r : Compiled) (out' : List ℕ) → result r out' ≡ from_reading c.pins q (reading_of text) out → Compiles r out'
+          (r : Compiled) (out' : List ℕ) → answered r out' ≡ from_reading c.pins q (reading_of text) out → Compiles r out'
       unfolding compile_of
       read r out' e =
           promised

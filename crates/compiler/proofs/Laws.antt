@@ -16,7 +16,7 @@ use Rattle.lists.proofs.Readings.{reading-refused}
 use Rattle.drawing.specs.Stream.{stream, clocks_of}
 use Rattle.compiler.specs.declared.answer.Compiled.{Compiled}
 use Rattle.compiler.specs.declared.answer.Compiled.TheVariants.{Done, Refused, BadLine, Short}
-use Rattle.compiler.specs.Compile.{Result, result, into_output, from_reading, compile_of, numbers_of}
+use Rattle.compiler.specs.Compile.{Result, answered, into_output, from_reading, compile_of, numbers_of}
 use Rattle.compiler.specs.Promise.{Promise}
 use Rattle.compiler.specs.When.{When, PassesEntry, Streams}
 use Rattle.compiler.proofs.Promise.{compile-draws}
@@ -33,15 +33,15 @@ module _ (c : Chip) (text out : List ℕ) where
 
   -- what is known of the answer and the output together
   data AnswerWhen : Result → Type 0 where
-    refused : (r : Compiled) → When c text out r → AnswerWhen (result r out)
-    done : (n k : ℕ) (es : List ℕ) → When c text out (Done n k) → AnswerWhen (result (Done n k) (sets out 0 es))
+    refused : (r : Compiled) → When c text out r → AnswerWhen (answered r out)
+    done : (n k : ℕ) (es : List ℕ) → When c text out (Done n k) → AnswerWhen (answered (Done n k) (sets out 0 es))
 
   into : (es : List ℕ) → PassesEntry c text → Streams c text es → AnswerWhen (into_output es out)
   into es ok streams = go (leb (length es) (length out)) refl
     where
       go :
           (t : Bool) → leb (length es) (length out) ≡ t
-          → AnswerWhen (cond t (result (Done (length es) (clocks_of es)) (sets out 0 es)) (result (Short (length es)) out))
+          → AnswerWhen (cond t (answered (Done (length es) (clocks_of es)) (sets out 0 es)) (answered (Short (length es)) out))
       go true e = done (length es) (clocks_of es) es (ok, (es, streams, refl, refl, leb-true (length es) (length out) e))
       go false e = refused (Short (length es)) (ok, (es, streams, refl, leb-false (length es) (length out) e))
 
@@ -55,7 +55,7 @@ module _ (c : Chip) (text out : List ℕ) where
     where
       go :
           (t : Bool) → allowed c ≡ t → (u : Bool) → ltb 4096 (newlines text) ≡ u
-          → AnswerWhen (cond t (cond u (result (Refused 9) out) (from_reading c.pins (blank c.registers) (reading_of text) out)) (result (Refused 2) out))
+          → AnswerWhen (cond t (cond u (answered (Refused 9) out) (from_reading c.pins (blank c.registers) (reading_of text) out)) (answered (Refused 2) out))
       go false e u d = refused (Refused 2) (inl (refl, e))
       go true e true d = refused (Refused 9) (inr (refl, e, ltb-true 4096 (newlines text) d))
       go true e false d = from (reading_of text) refl (record { allowed_record = e; not_too_long = ltb-false 4096 (newlines text) d })
@@ -93,7 +93,7 @@ module _ (c : Chip) (text out : List ℕ) where
   -- the length is that of the stream, the clocks are nine for each of its bytes, and the output begins with it and is else as it was
   pub accepted :
       (es : List ℕ) → PassesEntry c text → Streams c text es → length es ≤ length out
-      → compile_of c text out ≡ result (Done (length es) (clocks_of es)) (sets out 0 es)
+      → compile_of c text out ≡ answered (Done (length es) (clocks_of es)) (sets out 0 es)
   accepted es ok streams room = from-stream es ok streams ∙ rw (le-leb (length es) (length out) room)
 
   -- in document 01's numbers: 2 comes exactly where the record is not allowed
@@ -128,6 +128,6 @@ unfolding compile_of
 same-for-both c d text out ok pins registers = rw (ok, pins, registers)
 
 -- an empty list compiles to nothing
-pub empty-list : (c : Chip) (out : List ℕ) → allowed c ≡ true → compile_of c [] out ≡ result (Done 0 0) out
+pub empty-list : (c : Chip) (out : List ℕ) → allowed c ≡ true → compile_of c [] out ≡ answered (Done 0 0) out
 unfolding compile_of reading_of reading_from stream
 empty-list c out ok = rw (ok, le-leb 0 (length out) (omega arith))

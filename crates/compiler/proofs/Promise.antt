@@ -18,7 +18,7 @@ use Rattle.drawing.specs.Stream.{stream, clocks_of}
 use Rattle.drawing.proofs.Demand3.{text-demand-3}
 use Rattle.compiler.specs.declared.answer.Compiled.{Compiled}
 use Rattle.compiler.specs.declared.answer.Compiled.TheVariants.{Done, Refused, BadLine, Short}
-use Rattle.compiler.specs.Compile.{Result, result, from_reading, compile_of}
+use Rattle.compiler.specs.Compile.{Result, answered, from_reading, compile_of}
 use Rattle.compiler.specs.Promise.{Promise}
 
 done_refused : (n k j : ℕ) → Done n k ≡ Refused j → ⊥
@@ -46,9 +46,9 @@ module _ (c : Chip) (text out : List ℕ) where
   from-output :
       (ls : List Line) (n k : ℕ) (out' : List ℕ) (t : Bool) → reading_of text ≡ lines ls
       → leb (length (events_of ls)) (length out) ≡ t
-      → result (Done n k) out'
-      ≡ cond t (result (Done (length (events_of ls)) (clocks_of (events_of ls))) (sets out 0 (events_of ls)))
-      (result (Short (length (events_of ls))) out)
+      → answered (Done n k) out'
+      ≡ cond t (answered (Done (length (events_of ls)) (clocks_of (events_of ls))) (sets out 0 (events_of ls)))
+      (answered (Short (length (events_of ls))) out)
       → Draws c text n out'
   from-output ls n k out' false reads room e = absurd (done-short n k _ (answers _ _ e))
   from-output ls n k out' true reads room e =
@@ -67,19 +67,19 @@ module _ (c : Chip) (text out : List ℕ) where
       }
 
   from-text :
-      (r : Reading) (n k : ℕ) (out' : List ℕ) → reading_of text ≡ r → result (Done n k) out' ≡ from_reading c.pins (blank c.registers) r out
+      (r : Reading) (n k : ℕ) (out' : List ℕ) → reading_of text ≡ r → answered (Done n k) out' ≡ from_reading c.pins (blank c.registers) r out
       → Draws c text n out'
   from-text (faulty j i) n k out' reads e = absurd (done-bad n k j i (answers _ _ e))
   from-text (lines ls) n k out' reads e = from-output ls n k out' (leb (length (events_of ls)) (length out)) reads refl e
 
-  pub compile-draws : (r : Compiled) (out' : List ℕ) → result r out' ≡ compile_of c text out → Promise r c text out'
+  pub compile-draws : (r : Compiled) (out' : List ℕ) → answered r out' ≡ compile_of c text out → Promise r c text out'
   unfolding compile_of
-  compile-draws r out' e n k done = go (allowed c) (ltb 4096 (newlines text)) (ap (λ (z : Compiled). result z out') (sym done) ∙ e)
+  compile-draws r out' e n k done = go (allowed c) (ltb 4096 (newlines text)) (ap (λ (z : Compiled). answered z out') (sym done) ∙ e)
     where
       go :
           (t u : Bool)
-          → result (Done n k) out'
-          ≡ cond t (cond u (result (Refused 9) out) (from_reading c.pins (blank c.registers) (reading_of text) out)) (result (Refused 2) out)
+          → answered (Done n k) out'
+          ≡ cond t (cond u (answered (Refused 9) out) (from_reading c.pins (blank c.registers) (reading_of text) out)) (answered (Refused 2) out)
           → Draws c text n out'
       go false u h = absurd (done_refused n k 2 (answers _ _ h))
       go true true h = absurd (done_refused n k 9 (answers _ _ h))

@@ -18,23 +18,23 @@ pub record Result : Type 0 where
   pub answer : Compiled
   pub out : List ℕ
 
-abbrev pub result : Compiled → List ℕ → Result
-result a out = record { answer = a; out = out }
+abbrev pub answered : Compiled → List ℕ → Result
+answered a out = record { answer = a; out = out }
 
 -- the stream to the output: from its first word on, or nothing where there is no room for all
 abbrev pub into_output : List ℕ → List ℕ → Result
-into_output es out = cond (leb (length es) (length out)) (result (Done (length es) (clocks_of es)) (sets out 0 es)) (result (Short (length es)) out)
+into_output es out = cond (leb (length es) (length out)) (answered (Done (length es) (clocks_of es)) (sets out 0 es)) (answered (Short (length es)) out)
 
 -- the text's first fault, or its lines to a stream, from the pins and the registers but H, X and Y
 abbrev pub from_reading : ℕ → Registers → Reading → List ℕ → Result
-from_reading pins q (faulty k n) out = result (BadLine k n) out
+from_reading pins q (faulty k n) out = answered (BadLine k n) out
 from_reading pins q (lines ls) out = into_output (stream pins ls q) out
 
 -- 2, then 9, then the first bad line, then 10
 unfoldable pub compile_of : Chip → List ℕ → List ℕ → Result
 compile_of c text out =
-    cond (allowed c) (cond (ltb 4096 (newlines text)) (result (Refused 9) out) (from_reading c.pins (blank c.registers) (reading_of text) out))
-    (result (Refused 2) out)
+    cond (allowed c) (cond (ltb 4096 (newlines text)) (answered (Refused 9) out) (from_reading c.pins (blank c.registers) (reading_of text) out))
+    (answered (Refused 2) out)
 
 -- ---- document 01's numbers
 

@@ -5,7 +5,7 @@ ghost use Rattle.std.specs.Prelude.{◌≡◌, ◌≤◌};
 ghost use Rattle.registers.specs.Record.{blank};
 ghost use Rattle.lists.specs.Lists.{newlines, reading_of};
 ghost use Rattle.compiler.specs.Writes.{Tracked};
-ghost use Rattle.compiler.specs.Compile.{result, from_reading, compile_of};
+ghost use Rattle.compiler.specs.Compile.{answered, from_reading, compile_of};
 ghost use Rattle.compiler.specs.Promise.{Promise};
 
 use answer::Compiled;
@@ -23,7 +23,7 @@ mod write;
 
 // The registers that a list says something of. H, X and Y are blanked: every message sets its own.
 fn blanked(mut registers: Registers) -> Registers
-    ensures* { λ r. ⌜ r ≡ blank registers ⌝ }
+    ensures { result ≡ blank registers }
 {
     registers.h = 0;
     registers.x = 0;
@@ -34,7 +34,7 @@ fn blanked(mut registers: Registers) -> Registers
 // The events of a text that neither 2 nor 9 refuses, from the pins and the blanked registers.
 fn compile_lines(registers: Registers, pins: u8, text: &[u8], out: &mut [u16]) -> Compiled
     requires { (newlines text.now ≤ 4096) × Tracked registers × (pins ≤ 3) }
-    ensures* { λ r. ⌜ result r out.new ≡ from_reading pins registers (reading_of text.now) out.old ⌝ }
+    ensures { answered result out.new ≡ from_reading pins registers (reading_of text.now) out.old }
 {
     match measure::measure(text, registers, pins) {
         Measured::Fault { number, line } => Compiled::BadLine { number, line },
@@ -53,8 +53,8 @@ fn compile_lines(registers: Registers, pins: u8, text: &[u8], out: &mut [u16]) -
 
 // The bus events that draw a list on the chip with this record, written from the output's first word on.
 pub fn compile(chip: Chip, text: &[u8], out: &mut [u16]) -> Compiled
-    ensures* out_after { λ r. ⌜ result r out.new ≡ compile_of chip text.now out.old ⌝ }
-    ensures* fact { λ r. ⌜ Promise r chip text.now out.new ⌝ }
+    ensures out_after { answered result out.new ≡ compile_of chip text.now out.old }
+    ensures promise { Promise result chip text.now out.new }
 {
     if !chip.allowed() {
         return Compiled::Refused(2);

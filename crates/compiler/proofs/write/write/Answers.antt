@@ -1,0 +1,36 @@
+use native.Mathlib.Omega.{arith}
+use Rattle.lists.proofs.Positions.{reading-next}
+use Rattle.compiler.proofs.CodeWays.{writing_start, writing-end, writing-no-fault, writing-room, writing-turn}
+use borrow.Author.Rules.{rules}
+use Rattle.compiler.proofs.write.write.Goals as goal
+
+pub loop-at-init : goal.loop-at-init
+loop-at-init c = writing_start _ _ _ _ c.requires.0 c.requires.1
+
+pub shape_of-out-in-Bad : goal.shape_of-out-in-Bad
+shape_of-out-in-Bad c =
+    c.loop-at.invariant.same_length
+
+pub returns-in-Bad : goal.returns-in-Bad
+returns-in-Bad c =
+    absurd (writing-no-fault c.loop-at.invariant c.loop-at-test.true _ c.line_at-found.ensures _ c.in-Bad.is)
+
+pub write-here-requires : goal.write-here-requires
+write-here-requires c =
+    writing-room c.loop-at.invariant c.loop-at-test.true _ c.line_at-found.ensures _ c.in-Good.is
+
+pub loop-at-smaller : goal.loop-at-smaller
+loop-at-smaller c =
+    let here = c.loop-at-test.true in
+    omega (arith, here, reading-next _ _ 1 here _ c.line_at-found.ensures)
+
+pub loop-at-preserved : goal.loop-at-preserved
+loop-at-preserved c =
+    writing-turn c.loop-at.invariant c.loop-at-test.true _ c.line_at-found.ensures _ c.in-Good.is _ _ _
+    (search rules) c.write-here.ensures c.registers_after-tracked.ensures
+
+pub shape_of-out : goal.shape_of-out
+shape_of-out c = c.loop-at.invariant.same_length
+
+pub returns : goal.returns
+returns c = writing-end c.loop-at.invariant c.loop-at-test.false
