@@ -3,8 +3,6 @@ use mathlib.Core.Path.{◌≡◌, refl, sym, ap, ◌∙◌, subst}
 use mathlib.Core.List.{List, [], ◌∷◌, ◌++◌, append_assoc, append-nil}
 use Prim.Native.Nat.{ℕ, ◌+◌, ◌/◌, ◌%◌, ◌≤◌, ◌<◌}
 use native.Mathlib.Omega.{arith}
-use denote.Enum.Declared.{tag_of}
-use types.Run.{OneOf}
 use borrow.Author.Tests.{eq-eqb, ne_eqb}
 use lib.ListN.{length, get_or}
 use Rattle.registers.specs.declared.Chip.{Chip}
@@ -25,10 +23,9 @@ use Rattle.print.proofs.Writing.{wrote_then, wrote-three, wrote-same, wrote-leng
 use Rattle.capture.specs.declared.End.{End}
 use Rattle.capture.specs.declared.End.TheVariants as ends
 use Rattle.capture.specs.Feeding.{meaning}
-use Rattle.capture.specs.contracts.End.{the_type}
 use Rattle.capture.proofs.Refusals.{lengths-lent}
 use Rattle.listing.specs.ReplayText.{refused_call}
-use Rattle.listing.proofs.CodeWays.{not-whole}
+use Rattle.listing.proofs.CodeWays.{NotWhole}
 use Rattle.origin.specs.declared.Origin.{Origin}
 use Rattle.origin.specs.Origin.{origin_at, line_of, shown_text, numbered, pixel_lines, cell_lines, byte_lines, origin_text}
 use Rattle.origin.specs.Call.{told_at, origin_call, told_of, origin_text_call}
@@ -167,15 +164,15 @@ module _ (c : Chip) (m w : List ℕ) (row column : ℕ) where
 
 -- ---- what is printed of a capture
 
--- an end that is no replay's, which the code knows by its variant
+-- an end that is no whole capture's
 pub refused-told :
-    (e : End) (m w : List ℕ) (row column : ℕ) (out : List ℕ) → OneOf (0 ∷ 1 ∷ 2 ∷ []) (tag_of the_type e)
+    (e : End) (m w : List ℕ) (row column : ℕ) (out : List ℕ) → NotWhole e
     → refused_call [] e out ≡ told_of (meaning e m w) row column out
 unfolding refused_call meaning
 refused-told (ends.Refused k) m w row column out t = refl
 refused-told ends.BadFirst m w row column out t = refl
 refused-told (ends.Bad c n) m w row column out t = refl
-refused-told (ends.Whole c n) m w row column out t = absurd (not-whole t)
+refused-told (ends.Whole c n) m w row column out t = absurd (t c n refl)
 
 -- one that is
 pub whole-told :
