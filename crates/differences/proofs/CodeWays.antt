@@ -4,8 +4,6 @@ use mathlib.Core.List.{List, [], ◌∷◌, ◌++◌, append_assoc}
 use mathlib.Core.Path.{◌≡◌, refl, sym, ap, ◌∙◌, subst}
 use Prim.Native.Nat.{ℕ, ◌≤◌}
 use native.Mathlib.Omega.{arith}
-use denote.Enum.Declared.{tag_of}
-use types.Run.{OneOf}
 use lib.Dec.{T}
 use lib.ListN.{length, get_or}
 use Rattle.registers.specs.declared.Chip.{Chip}
@@ -20,9 +18,8 @@ use Rattle.capture.specs.declared.End.{End}
 use Rattle.capture.specs.declared.End.TheVariants as ends
 use Rattle.capture.specs.Feeding.{meaning}
 use Rattle.capture.specs.Replay.{Replay}
-use Rattle.capture.specs.contracts.End.{the_type}
 use Rattle.listing.specs.ReplayText.{refused_call}
-use Rattle.listing.proofs.CodeWays.{not-whole}
+use Rattle.listing.proofs.CodeWays.{NotWhole}
 use Rattle.differences.specs.Comparison.{comparison_of, comparison_call}
 use Rattle.differences.specs.Differences.{memories, Compared, compared, cell_pair, cells_that_differ, register_pair, registers_that_differ}
 use Rattle.differences.specs.Differences.{header, cell_line, register_line, differences_of, differences_refusal, differences_call}
@@ -118,24 +115,24 @@ module _ (e : End) (m w : List ℕ) (f : End) (n v out : List ℕ) where
   unfolding comparison_call
   comparison-passed x o ex z h = let none : differences_refusal (memories m w) (memories n v) ≡ 0 = sym ex ∙ z in rw none h
 
--- an end that is no replay's, which the code knows by its variant: 0, 1 or 2 of the four
+-- an end that is no whole capture's
 pub first-refused-end :
-    (e : End) (m w : List ℕ) (second : Replay) (out : List ℕ) → OneOf (0 ∷ 1 ∷ 2 ∷ []) (tag_of the_type e)
+    (e : End) (m w : List ℕ) (second : Replay) (out : List ℕ) → NotWhole e
     → refused_call (bytes "1\t") e out ≡ comparison_of (meaning e m w) second out
 unfolding refused_call meaning
 first-refused-end (ends.Refused k) m w second out t = refl
 first-refused-end ends.BadFirst m w second out t = refl
 first-refused-end (ends.Bad c k) m w second out t = refl
-first-refused-end (ends.Whole c k) m w second out t = absurd (not-whole t)
+first-refused-end (ends.Whole c k) m w second out t = absurd (t c k refl)
 
 pub second-refused-end :
-    (c : Chip) (k : ℕ) (e : End) (m w : List ℕ) (f : End) (n v out : List ℕ) → e ≡ ends.Whole c k → OneOf (0 ∷ 1 ∷ 2 ∷ []) (tag_of the_type f)
+    (c : Chip) (k : ℕ) (e : End) (m w : List ℕ) (f : End) (n v out : List ℕ) → e ≡ ends.Whole c k → NotWhole f
     → refused_call (bytes "2\t") f out ≡ comparison_of (meaning e m w) (meaning f n v) out
 unfolding refused_call meaning
 second-refused-end c k e m w (ends.Refused j) n v out is t = rw is
 second-refused-end c k e m w ends.BadFirst n v out is t = rw is
 second-refused-end c k e m w (ends.Bad d j) n v out is t = rw is
-second-refused-end c k e m w (ends.Whole d j) n v out is t = absurd (not-whole t)
+second-refused-end c k e m w (ends.Whole d j) n v out is t = absurd (t d j refl)
 
 pub both-whole :
     (c d : Chip) (k j : ℕ) (e : End) (m w : List ℕ) (f : End) (n v out : List ℕ) (x : ℕ) → e ≡ ends.Whole c k → f ≡ ends.Whole d j

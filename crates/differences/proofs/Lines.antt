@@ -1,16 +1,13 @@
 -- The lines of a comparison, and how long its text is at most.
-use mathlib.Core.Bool.{Bool, true, false, cond, ◌&&◌}
+use mathlib.Core.Bool.{Bool, true, false, cond}
 use mathlib.Core.List.{List, [], ◌∷◌, ◌++◌, append-nil}
 use mathlib.Core.Path.{◌≡◌, refl, ap}
-use Prim.Native.Nat.{ℕ, zero, suc, ◌+◌, ◌/◌, ◌%◌, ◌^◌, ◌≤◌, ◌<◌}
+use Prim.Native.Nat.{ℕ, ◌+◌, ◌/◌, ◌%◌, ◌^◌, ◌≤◌, ◌<◌}
 use native.Mathlib.Omega.{arith}
-use borrow.Author.Tests.{leb-true}
-use lib.Dec.{leb}
 use lib.ListN.{length, get_or, length-append}
 use Rattle.registers.specs.Record.{names}
 use Rattle.registers.specs.State.{places}
 use Rattle.registers.proofs.NamePieces.{name-bound}
-use Rattle.text.proofs.Numbers.{and_both}
 use Rattle.text.specs.Text.{join}
 use Rattle.print.specs.Chosen.{lines_of, line}
 use Rattle.print.specs.Printed.{decimal_of, parts_from}

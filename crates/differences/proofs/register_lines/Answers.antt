@@ -1,0 +1,28 @@
+use native.Mathlib.Omega.{arith}
+use Rattle.print.proofs.Writing.{wrote-same, wrote-next, parts-turn, parts-end}
+use Rattle.differences.proofs.Lines.{registers-parts}
+use borrow.Author.Rules.{rules}
+use Rattle.differences.proofs.register_lines.Goals as goal
+
+pub loop-k-init : goal.loop-k-init
+loop-k-init c = (
+  search rules,
+  search rules,
+  search rules,
+  λ l j w. w,
+)
+
+pub loop-k-preserved : goal.loop-k-preserved
+loop-k-preserved c = (
+  search rules,
+  wrote-next c.register_at-next.ensures,
+  search rules,
+  λ l j w. c.loop-k.invariant.3 l j
+      (parts-turn _ _ _ c.loop-k-test.true (omega arith) c.register_at-next.ensures w),
+)
+
+pub returns : goal.returns
+returns c =
+    let args = c.args in
+    wrote-same (registers-parts args.first.now args.second.now)
+    (c.loop-k.invariant.3 _ _ (parts-end _ _ _ _ _ (omega arith) c.loop-k-test.false))
