@@ -1,13 +1,13 @@
 -- Ways through the code, over plain variables: one answer after the other, as in `capture_file`, and the tally beside it.
 use mathlib.Core.Bool.{Bool, true, false, not}
-use mathlib.Core.List.{List, [], ◌∷◌, ◌++◌}
+use mathlib.Core.List.{List, []}
 use mathlib.Core.Logic.{◌⊎◌}
-use mathlib.Core.Path.{◌≡◌, refl, sym, ap, ◌∙◌}
+use mathlib.Core.Path.{◌≡◌, sym, ap, ◌∙◌}
 use Prim.Native.Nat.{ℕ, ◌-◌, ◌<◌}
-use lib.IntN.{ℤ}
-use lib.ListN.{length, take}
-use Rattle.io.specs.Counts.{clamp_len}
-use Rattle.program_io.specs.Answers.{Answer, answer_of, bytes_of, text_of, most_calls}
+use lib.ListN.{take}
+use Rattle.std.specs.Prelude.{Option, None, Result}
+use Rattle.std.specs.declared.io.Error.{Error}
+use Rattle.program_io.specs.Answers.{Answer, answer_of, count_of, bytes_of, text_of, most_calls}
 use Rattle.capture.specs.declared.Capture.{Capture}
 use Rattle.capture.specs.declared.End.{End}
 use Rattle.capture.specs.declared.Fed.{Fed}
@@ -20,22 +20,21 @@ use Rattle.capture_trace.proofs.CodeWays.{tallied-append}
 use Rattle.capture_trace.proofs.Laws.{cut-anywhere, tally-exact}
 use Rattle.capture_trace.proofs.Parts.{none_done, whole-done}
 use Rattle.trace_file.specs.declared.Step.{Step}
-use Rattle.trace_file.specs.declared.Followed.{Followed}
 use Rattle.trace_file.specs.Some.{StepOfSome, FollowOfSome}
 
--- the number that was answered has gone through the bits of an `isize`; the bytes are those that it says
-pub same_bytes : (got z : ℤ) (buffer : List ℕ) (n : ℕ) → z ≡ got → n ≡ clamp_len z (length buffer) → take n buffer ≡ bytes_of (answer_of got buffer)
-same_bytes got z buffer n ez en = rw (en, ez)
+-- the bytes are those that the answer says
+pub same_bytes : (got : Result ℕ Error) (buffer : List ℕ) (n : ℕ) → n ≡ count_of (answer_of got buffer) → take n buffer ≡ bytes_of (answer_of got buffer)
+same_bytes got buffer n en = rw en
 
 -- what has been fed since the start is what some answers gave, and the tally is that of its events
-pub record FollowedSoFar (m₀ w₀ : List ℕ) (f : Fed) (t : Tally) (m w : List ℕ) (more failed : Bool) (turns : ℕ) : Type 0 where
+pub record FollowedSoFar (m₀ w₀ : List ℕ) (f : Fed) (t : Tally) (m w : List ℕ) (more : Bool) (failed : Option Error) (turns : ℕ) : Type 0 where
   pub is-fed : FedSoFar m₀ w₀ f m w more failed turns
   pub is_tallied : t ≡ tallied_over (done_in_part (text_of is-fed.answers) (kept start_of m₀ w₀)) none_tallied
 
 -- no byte yet
 pub begun-followed :
     (m₀ w₀ m w : List ℕ) (c : Capture) (f : Fed) (t : Tally) (over : Bool) → c ≡ start_of → fed f.refusal f.capture m w ≡ feed_of [] (kept c m₀ w₀)
-    → over ≡ is_over (fed f.refusal f.capture m w) → t ≡ none_tallied → FollowedSoFar m₀ w₀ f t m w (not over) false most_calls
+    → over ≡ is_over (fed f.refusal f.capture m w) → t ≡ none_tallied → FollowedSoFar m₀ w₀ f t m w (not over) None most_calls
 begun-followed m₀ w₀ m w c f t over ec ef eo et =
     record {
       is-fed = begun m₀ w₀ m w c f over ec ef eo;
@@ -48,7 +47,7 @@ begun-followed m₀ w₀ m w c f t over ec ef eo et =
 
 -- the bytes of one answer more
 pub turn-followed :
-    {m₀ w₀ m w m' w' : List ℕ} {f : Fed} {t : Tally} {more failed told : Bool} {turns : ℕ} {out out' : List ℕ} (s : Step)
+    {m₀ w₀ m w m' w' : List ℕ} {f : Fed} {t : Tally} {more told : Bool} {failed : Option Error} {turns : ℕ} {out out' : List ℕ} (s : Step)
     → FollowedSoFar m₀ w₀ f t m w more failed turns → 0 < turns → more ≡ true → StepOfSome s told t out m' w' out' (kept f.capture m w)
     → FollowedSoFar m₀ w₀ s.turn.fed s.tally m' w' s.turn.more s.turn.failed (turns - 1)
 turn-followed {m₀} {w₀} {m} {w} {f = f} {t = t} s so_far left on step =
@@ -77,7 +76,7 @@ turn-followed {m₀} {w₀} {m} {w} {f = f} {t = t} s so_far left on step =
     stands = ap (λ (g : PartFed). g.after) so_far.is-fed.is-fed
 
 pub all-followed :
-    {m₀ w₀ m w : List ℕ} {f : Fed} {t : Tally} {more failed printed : Bool} {turns : ℕ} (end : End) → FollowedSoFar m₀ w₀ f t m w more failed turns
+    {m₀ w₀ m w : List ℕ} {f : Fed} {t : Tally} {more printed : Bool} {failed : Option Error} {turns : ℕ} (end : End) → FollowedSoFar m₀ w₀ f t m w more failed turns
     → end ≡ finish_of f.refusal f.capture → (printed ≡ true → (more ≡ false) ⊎ (turns ≡ 0))
     → FollowOfSome (record { end = end; tally = t; failed = failed; printed = printed }) m w m₀ w₀
 all-followed {m₀} {w₀} end so_far e why =

@@ -2,7 +2,7 @@
 -- some answers the end is the replay of exactly the bytes that they gave, as for `capture_file`, and the tally counts over its events.
 use Rattle.std.specs.Prelude.{Bool, true, List, ◌≡◌, ℕ}
 use Rattle.print.specs.Printed.{Wrote}
-use Rattle.program_io.specs.Answers.{Answer, text_of, bytes_of, last_failed}
+use Rattle.program_io.specs.Answers.{Answer, text_of, bytes_of, last_failure}
 use Rattle.capture.specs.Feeding.{Playing, meaning}
 use Rattle.capture.specs.Replay.{replay_of}
 use Rattle.chip.specs.Promised.{is_acknowledged}
@@ -24,7 +24,7 @@ pub record StepOfSome (s : Step) (told : Bool) (t : Tally) (out₀ m w out : Lis
 pub record FollowOfSome (r : Followed) (m w m₀ w₀ : List ℕ) : Type 0 where
   pub answers : List Answer
   pub is_replay : meaning r.end m w ≡ replay_of (text_of answers) m₀ w₀
-  pub is_failed : r.failed ≡ last_failed answers
+  pub is_failed : r.failed ≡ last_failure answers
   pub is_enough : r.printed ≡ true → Enough m₀ w₀ answers
   pub is_tally :
       r.tally ≡ tally (how_many is_acknowledged (done_of (text_of answers) m₀ w₀)) (how_many is_not_acknowledged (done_of (text_of answers) m₀ w₀))

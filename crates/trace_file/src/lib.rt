@@ -18,6 +18,9 @@ ghost use Rattle.trace_file.specs.Some.{StepOfSome, FollowOfSome};
 use capture::{Capture, End};
 use capture_file::Turn;
 use capture_trace::tally::Tally;
+use program_io::reading::Source;
+use std::io;
+use std::io::Read;
 
 // What the bytes of one read come to, the tally after them, and how long their lines are.
 #[derive(Clone, Copy)]
@@ -27,20 +30,20 @@ pub struct Step {
     pub length: usize,
 }
 
-// What was read comes to `end`, and was tallied so. Where `failed`, reading stopped with an error, and errno says which. Where not `printed`, the
-// lines could not be put, which has been said, and nothing more was read.
+// What was read comes to `end`, and was tallied so. `failed` is the error with which reading stopped, if it did. Where not `printed`, the lines could
+// not be put, which has been said, and nothing more was read.
 #[derive(Clone, Copy)]
 pub struct Followed {
     pub end: End,
     pub tally: Tally,
-    pub failed: bool,
+    pub failed: Option<io::Error>,
     pub printed: bool,
 }
 
 // What a read answered, and the buffer that it was lent. One that failed gave no byte, and neither does one at the end of the input. Where `told`,
 // the lines of the events stand at the start of `out`.
 pub fn take_in(
-    got: isize,
+    got: io::Result<usize>,
     buf: &[u8],
     told: bool,
     capture: Capture,
@@ -56,7 +59,8 @@ pub fn take_in(
     ensures wrote { Wrote out.old 0 (told_lines told (done_in_part (bytes_of (answer_of got buf.now))
         (kept capture memory.old writers.old))) out.new result.length }
 {
-    let n = io::count(got, buf);
+    let n = program_io::reading::count(got, buf);
+    let failed = got.err();
     let followed = capture_trace::follow(capture, tally, told, memory, writers, &buf[..n], out);
     let fed = followed.fed;
     let after = followed.tally;
@@ -64,7 +68,7 @@ pub fn take_in(
         turn: Turn {
             fed,
             more: (0 < n) & !capture::is_over(fed),
-            failed: got < 0,
+            failed,
         },
         tally: after,
         length: followed.length,
@@ -80,7 +84,7 @@ fn room() -> [u8; 303104]
 
 // One read. The buffer stands here, so that the loop knows nothing of it.
 fn read_once(
-    fd: i32,
+    source: &mut Source,
     told: bool,
     capture: Capture,
     tally: Tally,
@@ -91,16 +95,17 @@ fn read_once(
     ensures { StepOfSome result told tally out.old memory.new writers.new out.new
         (kept capture memory.old writers.old) }
 {
-    let mut buf = io::buffer();
-    let got = libc::read(fd, &mut buf);
+    let mut buf = program_io::buffer();
+    let got = source.read(&mut buf);
     take_in(got, &buf, told, capture, tally, memory, writers, out)
 }
 
 // The capture in a file that is open, for this program. The memories are those that the events write; at the start of a capture they are lent as
 // zeros. Nothing is read where one of them has another length. Where `told`, each event's line is put.
 pub fn follow(
+    rt: &HostRuntime,
     program: &[u8],
-    fd: i32,
+    source: &mut Source,
     told: bool,
     memory: &mut [u8],
     writers: &mut [u64],
@@ -111,19 +116,19 @@ pub fn follow(
     let mut fed = capture::feed(capture::start(), memory, writers, b"");
     let mut tally = Tally::none();
     let mut more = !capture::is_over(fed);
-    let mut failed = false;
+    let mut failed = None;
     let mut printed = true;
     // A proved loop needs a number that falls, and nothing says that an input ends. No run makes this many turns.
     let mut turns = u64::MAX;
     while 0 < turns && more && printed {
         let capture = fed.capture;
-        let step = read_once(fd, told, capture, tally, memory, writers, &mut out);
+        let step = read_once(source, told, capture, tally, memory, writers, &mut out);
         let turn = step.turn;
         fed = turn.fed;
         tally = step.tally;
         more = turn.more;
         failed = turn.failed;
-        printed = program_io::put(program, &out, step.length);
+        printed = program_io::put(rt, program, &out, step.length);
         turns -= 1;
     }
     Followed {
