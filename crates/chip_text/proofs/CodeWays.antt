@@ -3,8 +3,6 @@ use mathlib.Core.List.{List, [], ◌∷◌, ◌++◌, append_assoc}
 use mathlib.Core.Path.{◌≡◌, refl, ap, ◌∙◌}
 use Prim.Native.Nat.{ℕ, ◌≤◌}
 use native.Mathlib.Omega.{arith}
-use denote.Enum.Declared.{tag_of}
-use types.Run.{OneOf}
 use lib.ListN.{length, get_or}
 use Rattle.registers.specs.declared.Chip.{Chip}
 use Rattle.registers.specs.declared.Phase.{Phase}
@@ -18,10 +16,9 @@ use Rattle.print.specs.Printed.{top, Wrote, whole_text}
 use Rattle.print.proofs.Writing.{wrote_then, wrote-three, wrote-same, wrote-length}
 use Rattle.capture.specs.declared.End.{End}
 use Rattle.capture.specs.declared.End.TheVariants as ends
-use Rattle.capture.specs.contracts.End.{the_type}
 use Rattle.capture_trace.specs.declared.tally.Tally.{Tally}
 use Rattle.listing.specs.ReplayText.{refused_call}
-use Rattle.listing.proofs.CodeWays.{not-whole}
+use Rattle.listing.proofs.CodeWays.{NotWhole}
 use Rattle.chip_text.specs.ChipText.{bit_of, phase_words, phase_line, register_line, register_lines, record_lines, bus_lines, pixel_lines, chip_text, chip_text_call}
 
 -- ---- one line
@@ -78,12 +75,12 @@ pixels-wrote {l₁ = l₁} n h a b c d = let h₁ : length l₁ ≤ top = omega 
 
 -- ---- what is printed of a capture, by the variant of its end
 
-pub refused_end : (e : End) (t : Tally) (out : List ℕ) → OneOf (0 ∷ 1 ∷ 2 ∷ []) (tag_of the_type e) → refused_call [] e out ≡ chip_text_call e t out
+pub refused_end : (e : End) (t : Tally) (out : List ℕ) → NotWhole e → refused_call [] e out ≡ chip_text_call e t out
 unfolding chip_text_call
 refused_end (ends.Refused k) t out q = refl
 refused_end ends.BadFirst t out q = refl
 refused_end (ends.Bad c n) t out q = refl
-refused_end (ends.Whole c n) t out q = absurd (not-whole q)
+refused_end (ends.Whole c n) t out q = absurd (q c n refl)
 
 pub whole-end :
     (c : Chip) (n : ℕ) (e : End) (t : Tally) (out : List ℕ) → e ≡ ends.Whole c n → whole_text (record_refusal c) (chip_text c n t) out ≡ chip_text_call e t out

@@ -1,0 +1,10 @@
+use mathlib.Core.Bool.{true, false}
+use Rattle.print.proofs.Writing.{wrote-known}
+use Rattle.chip_text.specs.ChipText.{endless}
+use Rattle.chip_text.proofs.endless.Goals as goal
+
+pub returns-then-rs : goal.returns-then-rs
+returns-then-rs c = wrote-known endless true c.if-rs.true c.bytes.ensures
+
+pub returns : goal.returns
+returns c = wrote-known endless false c.if-rs.false c.bytes-2.ensures
