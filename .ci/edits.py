@@ -62,6 +62,9 @@ LEMMA_ITEM = re.compile(r"^(?!--|use |pub use |unfolding |mod |pub mod )"
 WORD = re.compile(r"[^\s(){}\[\],;:.`<>&|!]+")
 
 
+# The words that each name of a goal, or of a fact that a goal has, has one of, beside words of the code.
+GOAL_WORDS = {"returns", "if", "then", "else", "in", "loop"}
+
 # The files that hold the proof of one function, in a directory of its name.
 PROOF_FILES = ["Proof.antt", "Answers.antt", "Invariants.antt"]
 
@@ -120,16 +123,28 @@ def at_line(path, line):
     return item_at(path, len("".join(lines[:line])) - 1)
 
 
+def renames_goals(old, new):
+    """Whether two texts of a function's proof differ in names of goals and of their facts alone: these have words of the code."""
+    old, new = (re.findall(r"[\w'-]+|[^\w\s]", part) for part in (old, new))
+    of_goals = [all(GOAL_WORDS & set(word.split("-")) for word in pair) for pair in zip(old, new)]
+    return len(old) == len(new) and all(a == b or is_goal for a, b, is_goal in zip(old, new, of_goals))
+
+
+def same_shape(old, new):
+    """Whether two texts of code differ in names and numbers alone."""
+    old, new = (re.findall(r"\w+|[^\w\s]", part) for part in (old, new))
+    return len(old) == len(new) and all(a == b or a[0].isalnum() and b[0].isalnum() for a, b in zip(old, new))
+
+
 def keeps_shape(edit):
-    """Whether each text of an edit of code differs from the one it replaces in names and numbers alone."""
-    text = edit.read_text()
-    if re.search(r"^file: (?!src/)", text, re.M):
-        return False
-    for old, new in re.findall(r"^old: (.*)\nnew: (.*)$", text, re.M):
-        old, new = (re.findall(r"\w+|[^\w\s]", part) for part in (old, new))
-        if len(old) != len(new) or any(a != b and not (a[0].isalnum() and b[0].isalnum()) for a, b in zip(old, new)):
-            return False
-    return True
+    """Whether each text of an edit of code differs from the one it replaces in names and numbers alone.
+
+    The proofs of functions may have their goals' new names."""
+    found = list(trial.replacements(edit))
+    in_code = [same_shape(old, new) for file, old, new in found if file.startswith("src/")]
+    other = [pathlib.Path(file).name in PROOF_FILES and renames_goals(old, new)
+             for file, old, new in found if not file.startswith("src/")]
+    return bool(in_code) and all(in_code + other)
 
 
 def edited(crate, edit):

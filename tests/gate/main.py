@@ -42,15 +42,20 @@ pub within-law : (n : ℕ) → n ≤ 100 → n < 101
 within-law n h = omega arith
 """,
     "proofs/half/Answers.antt": "returns c = refl\n",
-    "proofs/within/Answers.antt": "returns c = refl\n",
+    "proofs/within/Answers.antt": "returns c = refl\nreturns-if-n-le100 c = eq c.if-n-le100.true\n",
 }
 CODE = "file: src/lib.rt\nold: n / 2\nnew: n / 3\n"
 CONSTANT = "file: src/lib.rt\nold: const MOST: u8 = 100;\nnew: const MOST: u8 = 101;\n"
 DEFINITION = "file: specs/Half.antt\nold: half_of n = n / 2\nnew: half_of n = n / 3\n"
 WALL = "file: proofs/Laws.antt\nold: quarter-law n = omega arith\nnew: quarter-law n = refl\n"
 OTHER_SHAPE = CODE.replace("n / 3", "n / 2 / 2")
+IN_PROOF = "file: proofs/within/Answers.antt\nold: returns-if-n-le100 c = eq c.if-n-le100.true\n"
+GOALS_RENAMED = CONSTANT + IN_PROOF + "new: returns-if-n-le101 c = eq c.if-n-le101.true\n"
+PROOF_CHANGED = CONSTANT + IN_PROOF + "new: returns-if-n-le101 c = ne c.if-n-le101.true\n"
+PROOF_ALONE = IN_PROOF + "new: returns-if-n-le101 c = eq c.if-n-le101.true\n"
 
 RETURN = "./proofs/half/Answers.antt:1:5: error: `returns`: "
+WITHIN = RETURN.replace("half", "within")
 ITSELF = "./specs/Half.antt:2:12: error: `half_of`: "
 LAW = "./proofs/Laws.antt:2:17: error: `quarter-law`: "
 FOLLOWS = "./proofs/half/Answers.antt:9:9: error: `half-spec`: `returns` was not admitted (it has holes)\n"
@@ -93,7 +98,7 @@ CASES = [
     ("no_proof_file", CODE, REFUSED + NOTE, None, "no proof was found"),
     ("no_proof_file_and_values", CODE, REFUSED + VALUES, None, "values break the goal"),
     ("no_proof_file_and_a_limit", CODE, REFUSED + GAVE_UP, None, "no proof was found"),
-    ("constant", CONSTANT, REFUSED + RETURN.replace("half", "within") + DIFFER, None, "the proof has another type"),
+    ("constant", CONSTANT, REFUSED + WITHIN + DIFFER, None, "the proof has another type"),
     ("definition_at_its_law", DEFINITION, REFUSED + LAW + BREAKS, None, "values break the goal"),
     ("definition_at_a_number", DEFINITION.replace("n / 3", "n / 2 / 2"), REFUSED + LAW + SIDES, LAW + EQUAL,
      "two numbers are to be equal"),
@@ -107,6 +112,9 @@ CASES = [
     ("nothing_to_rewrite", CODE, REFUSED + RETURN + NOTHING, None, "nothing to rewrite"),
     ("nothing_to_rewrite_in_another_shape", OTHER_SHAPE, REFUSED + RETURN + NOTHING, RETURN + NOTHING,
      "the code has another shape"),
+    ("goals_with_new_names", GOALS_RENAMED, REFUSED + WITHIN + EXPECTED, None, "the proof has another type"),
+    ("goals_with_another_proof", PROOF_CHANGED, REFUSED + WITHIN + EXPECTED, WITHIN + TYPES, "the code has another shape"),
+    ("goals_alone", PROOF_ALONE, REFUSED + WITHIN + EXPECTED, None, "not at what was edited"),
     ("over_the_wall_by_unfolding", WALL, REFUSED + LAW + SHUT, None, "the wall"),
     ("over_the_wall_by_name", WALL, REFUSED + LAW + NOT_HAD, None, "the wall"),
     ("over_the_wall_by_computing", WALL, REFUSED + LAW + EXPECTED, LAW + STAYS_SHUT, "the wall"),
