@@ -49,7 +49,7 @@ class Sides:
         command = command.replace("target/bin", self.programs)
         command = command.replace("target/staticlib/libhost.a", self.archive)
         done = subprocess.run(["sh", "-c", command], stdout=subprocess.PIPE, stderr=subprocess.STDOUT,
-                              stdin=subprocess.DEVNULL, timeout=300,
+                              stdin=subprocess.DEVNULL, timeout=600,
                               env={**os.environ, "PROGRAMS": self.programs})
         return done.stdout
 

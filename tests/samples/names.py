@@ -8,7 +8,7 @@ from collections import Counter
 
 DOCUMENTS = ["README.md", *sorted(glob.glob("docs/*.md"))]
 STATEMENTS, ARCHITECTURE = "docs/STATEMENTS.md", "docs/ARCHITECTURE.md"
-LEFT_OUT = {"registers", "instruction_table", "text", "print", "program_io", "io", "os", "libc"}
+LEFT_OUT = {"registers", "instruction_table", "text", "print", "program_io"}
 PLACES = ["crates", "tests", "include", "samples", "examples", "bench", ".ci"]
 PLACED = re.compile(r"((?:`[^`\n]+`(?:, | and )?)+)\s+in\s+`((?:crates|tests)/[^`\n]+)`")
 WORD = re.compile(r"[A-Za-z0-9_'·-]+")
