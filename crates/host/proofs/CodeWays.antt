@@ -29,7 +29,7 @@ use Rattle.pulses.specs.Pulse.{pulses_of}
 use Rattle.pulses.specs.Row.{pulse_row, row_of}
 use Rattle.compiler.specs.declared.answer.Compiled.{Compiled}
 use Rattle.compiler.specs.declared.answer.Numbers.{Numbers}
-use Rattle.compiler.specs.Compile.{Result, result, compile_of, numbers_of}
+use Rattle.compiler.specs.Compile.{Result, answered, compile_of, numbers_of}
 use Rattle.record_words.specs.declared.Read.{Read}
 use Rattle.record_words.specs.declared.Read.TheVariants.{Record, NoRecord}
 use Rattle.record_words.specs.Words.{record_length, stands_for, chip_of, words_of, read_of, stored}
@@ -173,7 +173,7 @@ module _ (ws : List ℕ) (x : Read) (c : Chip) (ex : x ≡ read_of ws) (is : x �
 
   pub compile-done :
       (text out : List ℕ) (a : Compiled) (t : Numbers) (out' : List ℕ)
-      → result a out' ≡ compile_of c text out → t ≡ numbers_of a → with_numbers t out' ≡ compile_call ws text out
+      → answered a out' ≡ compile_of c text out → t ≡ numbers_of a → with_numbers t out' ≡ compile_call ws text out
   unfolding compile_call
   compile-done text out a t out' er et =
       ap (λ (z : Numbers). with_numbers z out') et
