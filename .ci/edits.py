@@ -39,7 +39,7 @@ FACTS = [
     ("a rewritten goal is left", r"give a proof of that as the last argument, `(simp|rw) L t`"),
     ("nothing to rewrite", r"`simp`: no equation of the list has an instance|`rw`: no occurrence of the path's"),
     ("the proof has another type",
-     r"the two (types|sides) (first )?differ|the two types are|expected type `.*but this has type"),
+     r"the two (types|sides) (first )?differ|the two types are|expected type `.*but this has type|≟ `.*does not hold"),
 ]
 # Kinds that a proof which merely does not fit gives too. They count only of an edit that keeps the shape of the code, word for
 # word, with another name or number, or that says that a harmless twin of it was tried and is proved.

@@ -66,6 +66,8 @@ NUMBERS = (DIFFER + " n /`\n  and the other has `2` (found)\n"
            " and the other has `2` (found)\n")
 EXPECTED = "expected type `Post c`, but this has type `r ≡ half_of n`"
 TYPES = EXPECTED + "\n  `r` is not in scope here, so what is shown does not paste back\n"
+MEET = "`half_of (c.args).0`"
+NOT_MEET = MEET + "\n  ≟ `n / 3`\n  does not hold (this comparison had to wait for a metavariable)\n"
 TEST = "expected type `T (all_hold quarter_of)`, but this has type `Prim.Unit {?ℓ0}`"
 SIDES = "expected type `quarter_of 8 ≡ 2`, but this has type `quarter_of 8 ≡ quarter_of 8`"
 EQUAL = (SIDES + "\n  computed as far as they go, the two types are `Path ℕ 0 2` (expected) and `Path ℕ 0 0` (found)\n")
@@ -108,6 +110,7 @@ CASES = [
     ("definition_with_a_twin", "# The twin `n / 4 * 2` is proved.\n" + DEFINITION, REFUSED + RETURN + EXPECTED, None,
      "the proof has another type"),
     ("code_of_another_shape", OTHER_SHAPE, REFUSED + RETURN + EXPECTED, RETURN + TYPES, "the code has another shape"),
+    ("sides_that_do_not_meet", CODE, REFUSED + RETURN + MEET, RETURN + NOT_MEET, "the proof has another type"),
     ("rewritten_goal", OTHER_SHAPE, REFUSED + RETURN + REWRITTEN, None, "a rewritten goal is left"),
     ("nothing_to_rewrite", CODE, REFUSED + RETURN + NOTHING, None, "nothing to rewrite"),
     ("nothing_to_rewrite_in_another_shape", OTHER_SHAPE, REFUSED + RETURN + NOTHING, RETURN + NOTHING,
