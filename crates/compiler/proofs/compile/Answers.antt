@@ -1,3 +1,4 @@
+use native.Mathlib.Omega.{arith}
 use mathlib.Core.Path.{sym, ◌∙◌}
 use Rattle.compiler.proofs.CodeWays.{not_allowed, too_long, readable, read}
 use Rattle.compiler.proofs.compile.Goals as goal
@@ -10,18 +11,18 @@ returns-then-not-allowed c =
 pub returns-then-count_newlines-gt4096 : goal.returns-then-count_newlines-gt4096
 returns-then-count_newlines-gt4096 c =
     let ok = sym c.allowed.ensures ∙ c.if-not-allowed.false in
-    let both = too_long _ c.args.text.now c.args.out.now ok c.count_newlines.ensures c.if-count_newlines-gt4096.true in
+    let both = too_long _ c.args.text.now c.args.out.now ok c.count_newlines.ensures (omega (arith, c.if-count_newlines-gt4096.true)) in
     record { out_after = both.0; promise = both.1 }
 
 pub compile_lines-requires : goal.compile_lines-requires
 compile_lines-requires c =
     let ok = sym c.allowed.ensures ∙ c.if-not-allowed.false in
-    readable _ c.args.text.now ok c.count_newlines.ensures c.if-count_newlines-gt4096.false c.blanked.ensures
+    readable _ c.args.text.now ok c.count_newlines.ensures (omega (arith, c.if-count_newlines-gt4096.false)) c.blanked.ensures
 
 pub returns : goal.returns
 returns c =
     let ok = sym c.allowed.ensures ∙ c.if-not-allowed.false in
     let both =
-    read _ c.args.text.now c.args.out.now ok c.count_newlines.ensures c.if-count_newlines-gt4096.false c.blanked.ensures _ _ c.compile_lines.ensures
+    read _ c.args.text.now c.args.out.now ok c.count_newlines.ensures (omega (arith, c.if-count_newlines-gt4096.false)) c.blanked.ensures _ _ c.compile_lines.ensures
     in
     record { out_after = both.0; promise = both.1 }
