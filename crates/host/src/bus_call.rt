@@ -6,8 +6,7 @@ ghost use Rattle.bus_host.specs.BusCall.{called, bus_call};
 use bus_host::FourRead;
 
 // One event of the bus. A refused one leaves all buffers and the count as they are.
-#[unsafe(no_mangle)]
-pub extern "C" fn pcf8820_bus_step(
+pub fn pcf8820_bus_step(
     record0: &mut [u64],
     memory0: &mut [u8],
     writers0: &mut [u64],

@@ -3,14 +3,7 @@ ghost use Rattle.std.specs.Prelude.{◌≡◌};
 ghost use Rattle.host.specs.Counting.{counts, counts_call};
 
 // How many pixels have each value in this display memory. The four numbers are set in every case.
-#[unsafe(no_mangle)]
-pub extern "C" fn pcf8820_counts(
-    memory: &[u8],
-    n0: &mut u64,
-    n1: &mut u64,
-    n2: &mut u64,
-    n3: &mut u64,
-) -> u64
+pub fn pcf8820_counts(memory: &[u8], n0: &mut u64, n1: &mut u64, n2: &mut u64, n3: &mut u64) -> u64
     ensures { counts result n0.new n1.new n2.new n3.new ≡ counts_call memory.now }
 {
     let counted = pixel_counts::start(memory);

@@ -12,9 +12,9 @@ ghost use Rattle.pulses.specs.Row.{pulse_row};
 use record_words::{Read, WORDS, read_record, write_record};
 use registers::Chip;
 
-mod bus_call;
+pub mod bus_call;
 pub mod counts_call;
-mod wires_call;
+pub mod wires_call;
 
 // 1: a lent memory of another length; 0 is none.
 fn other_length(memory_len: usize, writers_len: usize) -> u64
@@ -35,8 +35,7 @@ fn no_record(memory_len: usize, writers_len: usize) -> u64
 }
 
 // The record after power-on reset, for these pins.
-#[unsafe(no_mangle)]
-pub extern "C" fn pcf8820_reset(record: &mut [u64], pins: u64) -> u64
+pub fn pcf8820_reset(record: &mut [u64], pins: u64) -> u64
     ensures { reset result «record».new ≡ reset_call pins «record».old }
 {
     if record.len() != WORDS {
@@ -51,8 +50,7 @@ pub extern "C" fn pcf8820_reset(record: &mut [u64], pins: u64) -> u64
 
 // One bus event. A refused one leaves the count as it is. Words that stand for a record stand for one that is allowed, so that of the entry the lengths
 // alone are left to be tested.
-#[unsafe(no_mangle)]
-pub extern "C" fn pcf8820_step(
+pub fn pcf8820_step(
     record: &mut [u64],
     memory: &mut [u8],
     writers: &mut [u64],
@@ -78,8 +76,7 @@ pub extern "C" fn pcf8820_step(
 }
 
 // Events in order up to the first refused one: how many were done, and how many of those were commands that were unknown and out of range.
-#[unsafe(no_mangle)]
-pub extern "C" fn pcf8820_run(
+pub fn pcf8820_run(
     record: &mut [u64],
     memory: &mut [u8],
     writers: &mut [u64],
@@ -117,8 +114,7 @@ pub extern "C" fn pcf8820_run(
 }
 
 // What a row and column of the glass show. No writer numbers are lent, so that their length is never wrong.
-#[unsafe(no_mangle)]
-pub extern "C" fn pcf8820_glass(record: &[u64], memory: &[u8], row: u64, column: u64) -> u64
+pub fn pcf8820_glass(record: &[u64], memory: &[u8], row: u64, column: u64) -> u64
     ensures { result ≡ glass_call row column «record».now memory.now }
 {
     let found = read_record(record);
@@ -130,8 +126,7 @@ pub extern "C" fn pcf8820_glass(record: &[u64], memory: &[u8], row: u64, column:
 }
 
 // Which place of the memories a row and column of the glass show.
-#[unsafe(no_mangle)]
-pub extern "C" fn pcf8820_place(record: &[u64], row: u64, column: u64) -> u64
+pub fn pcf8820_place(record: &[u64], row: u64, column: u64) -> u64
     ensures { result ≡ place_call row column «record».now }
 {
     let found = read_record(record);
@@ -143,8 +138,7 @@ pub extern "C" fn pcf8820_place(record: &[u64], row: u64, column: u64) -> u64
 }
 
 // The pulses of a pixel in the four frames.
-#[unsafe(no_mangle)]
-pub extern "C" fn pcf8820_pulses(record: &[u64], memory: &[u8], row: u64, column: u64) -> u64
+pub fn pcf8820_pulses(record: &[u64], memory: &[u8], row: u64, column: u64) -> u64
     ensures { result ≡ pulses_call row column «record».now memory.now }
 {
     let found = read_record(record);
@@ -156,8 +150,7 @@ pub extern "C" fn pcf8820_pulses(record: &[u64], memory: &[u8], row: u64, column
 }
 
 // Those of a whole row of the glass.
-#[unsafe(no_mangle)]
-pub extern "C" fn pcf8820_pulse_row(record: &[u64], memory: &[u8], row: u64, out: &mut [u8]) -> u64
+pub fn pcf8820_pulse_row(record: &[u64], memory: &[u8], row: u64, out: &mut [u8]) -> u64
     ensures { pulse_row result out.new
         ≡ pulse_row_call row «record».now memory.now out.old }
 {
@@ -170,8 +163,7 @@ pub extern "C" fn pcf8820_pulse_row(record: &[u64], memory: &[u8], row: u64, out
 }
 
 // A drawing list to bus events.
-#[unsafe(no_mangle)]
-pub extern "C" fn pcf8820_compile(
+pub fn pcf8820_compile(
     record: &[u64],
     text: &[u8],
     out: &mut [u16],

@@ -3,16 +3,14 @@ ghost use Rattle.std.specs.Prelude.{◌≡◌};
 ghost use Rattle.wire_words.specs.Calls.{started, start_call, called, wires_call};
 
 // The wire state before the first sample.
-#[unsafe(no_mangle)]
-pub extern "C" fn pcf8820_wires_start(state: &mut [u64]) -> u64
+pub fn pcf8820_wires_start(state: &mut [u64]) -> u64
     ensures { started result state.new ≡ start_call state.old }
 {
     wire_words::start(state)
 }
 
 // Samples to events. A call refused by 2 or 14 leaves both buffers as they are.
-#[unsafe(no_mangle)]
-pub extern "C" fn pcf8820_wires(
+pub fn pcf8820_wires(
     state: &mut [u64],
     samples: &[u8],
     events: &mut [u16],
