@@ -4,33 +4,36 @@
 // `name`, its first `named` bytes, is what a message about the capture begins with.
 #![tactic(auto)]
 
-fn replay(fd: i32, name: &[u8], named: usize) {
+use program_io::Input;
+use program_io::reading::Source;
+
+fn replay(rt: &HostRuntime, source: &mut Source, name: &[u8], named: usize) {
     let mut memory = [0u8; 1717];
     let mut writers = [0u64; 1717];
-    let played = capture_file::play(fd, &mut memory, &mut writers);
+    let played = capture_file::play(source, &mut memory, &mut writers);
     let end = played.end;
-    if played.failed {
-        program_io::fail(name, named);
+    if let Some(error) = played.failed {
+        program_io::fail(rt, name, named, error);
         return;
     }
     // No listing is longer than 54,967 bytes.
-    let mut out = io::large_buffer();
+    let mut out = program_io::large_buffer();
     let length = listing::replay_text(end, &memory, &writers, &mut out).length();
-    program_io::put(b"replay", &out, length);
+    program_io::put(rt, b"replay", &out, length);
 }
 
-fn main() {
-    if program_io::helped(b"replay", b"replay [CAPTURE]") {
+fn main(rt: HostRuntime) {
+    if program_io::helped(&rt, b"replay", b"replay [CAPTURE]") {
         return;
     }
-    if 2 < os::arg_count() {
-        program_io::wrong_call(b"replay", b"too many arguments", b"replay [CAPTURE]");
+    if program_io::is_given(&rt, 2) {
+        program_io::wrong_call(&rt, b"replay", b"too many arguments", b"replay [CAPTURE]");
         return;
     }
-    let mut name = io::large_buffer();
-    let input = program_io::open_input(b"replay", 1, &mut name);
-    if input.fd < 0 {
+    let mut name = program_io::large_buffer();
+    let Input { source, named } = program_io::open_input(&rt, b"replay", 1, &mut name);
+    let Some(mut source) = source else {
         return;
-    }
-    replay(input.fd, &name, input.named);
+    };
+    replay(&rt, &mut source, &name, named);
 }

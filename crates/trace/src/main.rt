@@ -3,42 +3,45 @@
 // never held as a whole.
 #![tactic(auto)]
 
+use program_io::Input;
+use program_io::reading::Source;
+
 const USAGE: [u8; 15] = *b"trace [CAPTURE]";
 
 // The line of a capture that is bad, behind those of the events before it.
-fn tell(end: capture::End) {
+fn tell(rt: &HostRuntime, end: capture::End) {
     let mut out = [0u8; 64];
     let length = listing::refused(b"", end, &mut out).length();
-    program_io::put(b"trace", &out, length);
+    program_io::put(rt, b"trace", &out, length);
 }
 
-fn trace(fd: i32, name: &[u8], named: usize) {
+fn trace(rt: &HostRuntime, source: &mut Source, name: &[u8], named: usize) {
     let mut memory = [0u8; 1717];
     let mut writers = [0u64; 1717];
-    let followed = trace_file::follow(b"trace", fd, true, &mut memory, &mut writers);
+    let followed = trace_file::follow(rt, b"trace", source, true, &mut memory, &mut writers);
     let end = followed.end;
     if !followed.printed {
         return;
     }
-    if followed.failed {
-        program_io::fail(name, named);
+    if let Some(error) = followed.failed {
+        program_io::fail(rt, name, named, error);
         return;
     }
-    tell(end);
+    tell(rt, end);
 }
 
-fn main() {
-    if program_io::helped(b"trace", &USAGE) {
+fn main(rt: HostRuntime) {
+    if program_io::helped(&rt, b"trace", &USAGE) {
         return;
     }
-    if 2 < os::arg_count() {
-        program_io::wrong_call(b"trace", b"too many arguments", &USAGE);
+    if program_io::is_given(&rt, 2) {
+        program_io::wrong_call(&rt, b"trace", b"too many arguments", &USAGE);
         return;
     }
-    let mut name = io::large_buffer();
-    let input = program_io::open_input(b"trace", 1, &mut name);
-    if input.fd < 0 {
+    let mut name = program_io::large_buffer();
+    let Input { source, named } = program_io::open_input(&rt, b"trace", 1, &mut name);
+    let Some(mut source) = source else {
         return;
-    }
-    trace(input.fd, &name, input.named);
+    };
+    trace(&rt, &mut source, &name, named);
 }
