@@ -5,6 +5,8 @@
 ghost use Rattle.std.specs.Prelude.{◌≡◌, length};
 
 use capture::End;
+use program_io::Input;
+use program_io::reading::Source;
 use registers::Chip;
 
 // Room for the longest picture.
@@ -14,52 +16,52 @@ fn room() -> [u8; 81218]
     [0; 81218]
 }
 
-fn show(chip: Chip, memory: &[u8]) {
+fn show(rt: &HostRuntime, chip: Chip, memory: &[u8]) {
     let mut out = room();
     let length = picture::pixmap(chip, memory, &mut out).length();
-    program_io::put(b"view", &out, length);
+    program_io::put(rt, b"view", &out, length);
 }
 
 // The line of a capture that is bad.
-fn refused(end: End) {
+fn refused(rt: &HostRuntime, end: End) {
     let mut out = [0u8; 64];
     let length = listing::refused(b"", end, &mut out).length();
-    program_io::put(b"view", &out, length);
+    program_io::put(rt, b"view", &out, length);
 }
 
-fn tell(end: End, memory: &[u8]) {
+fn tell(rt: &HostRuntime, end: End, memory: &[u8]) {
     let End::Whole(chip, _) = end else {
-        refused(end);
+        refused(rt, end);
         return;
     };
-    show(chip, memory);
+    show(rt, chip, memory);
 }
 
 // `name`, its first `named` bytes, is what a message about the capture begins with.
-fn view(fd: i32, name: &[u8], named: usize) {
+fn view(rt: &HostRuntime, source: &mut Source, name: &[u8], named: usize) {
     let mut memory = [0u8; 1717];
     let mut writers = [0u64; 1717];
-    let played = capture_file::play(fd, &mut memory, &mut writers);
+    let played = capture_file::play(source, &mut memory, &mut writers);
     let end = played.end;
-    if played.failed {
-        program_io::fail(name, named);
+    if let Some(error) = played.failed {
+        program_io::fail(rt, name, named, error);
         return;
     }
-    tell(end, &memory);
+    tell(rt, end, &memory);
 }
 
-fn main() {
-    if program_io::helped(b"view", b"view [CAPTURE]") {
+fn main(rt: HostRuntime) {
+    if program_io::helped(&rt, b"view", b"view [CAPTURE]") {
         return;
     }
-    if 2 < os::arg_count() {
-        program_io::wrong_call(b"view", b"too many arguments", b"view [CAPTURE]");
+    if program_io::is_given(&rt, 2) {
+        program_io::wrong_call(&rt, b"view", b"too many arguments", b"view [CAPTURE]");
         return;
     }
-    let mut name = io::large_buffer();
-    let input = program_io::open_input(b"view", 1, &mut name);
-    if input.fd < 0 {
+    let mut name = program_io::large_buffer();
+    let Input { source, named } = program_io::open_input(&rt, b"view", 1, &mut name);
+    let Some(mut source) = source else {
         return;
-    }
-    view(input.fd, &name, input.named);
+    };
+    view(&rt, &mut source, &name, named);
 }
