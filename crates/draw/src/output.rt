@@ -7,24 +7,24 @@ const TAB: u8 = 9;
 
 const NEWLINE: u8 = 10;
 
-fn put(text: &[u8], n: usize) -> bool {
-    program_io::put(b"draw", text, n)
+fn put(rt: &HostRuntime, text: &[u8], n: usize) -> bool {
+    program_io::put(rt, b"draw", text, n)
 }
 
 // `refused`, the number, and the line, which is 0 where there is none.
-pub fn refused(number: u64, line: u64) -> bool {
+pub fn refused(rt: &HostRuntime, number: u64, line: u64) -> bool {
     let mut out = [0u8; 64];
     let word = print::bytes(b"refused\t", &mut out, 0);
     let after_number = print::field(number, TAB, &mut out, word);
     let length = print::field(line, NEWLINE, &mut out, after_number);
-    put(&out, length)
+    put(rt, &out, length)
 }
 
-pub fn first_line(pins: u8) -> bool {
+pub fn first_line(rt: &HostRuntime, pins: u8) -> bool {
     let mut out = [0u8; 64];
     let word = print::bytes(b"pins\t", &mut out, 0);
     let length = print::field(pins as u64, NEWLINE, &mut out, word);
-    put(&out, length)
+    put(rt, &out, length)
 }
 
 fn number(event: u16) -> u64
@@ -47,8 +47,8 @@ fn lines(events: &[u16], out: &mut [u8]) -> usize
 }
 
 // The events of a line of the list, at most 2,727 of three digits: they have room.
-pub fn events(events: &[u16]) -> bool {
+pub fn events(rt: &HostRuntime, events: &[u16]) -> bool {
     let mut out = [0u8; 10908];
     let length = lines(events, &mut out);
-    put(&out, length)
+    put(rt, &out, length)
 }

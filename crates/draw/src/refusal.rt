@@ -56,11 +56,11 @@ fn sentence(name: &[u8], number: u64, line: u64, out: &mut [u8]) -> usize
     print::byte(NEWLINE, out, end)
 }
 
-pub fn explain(name: &[u8], named: usize, number: u64, line: u64) {
+pub fn explain(rt: &HostRuntime, name: &[u8], named: usize, number: u64, line: u64) {
     if name.len() < named {
         return;
     }
-    let mut out = io::large_buffer();
+    let mut out = program_io::large_buffer();
     let length = sentence(&name[..named], number, line, &mut out);
-    program_io::tell(&out, length);
+    program_io::tell(rt, &out, length);
 }
