@@ -5,6 +5,8 @@
 ghost use Rattle.std.specs.Prelude.{◌≡◌, length};
 
 use capture::End;
+use program_io::Input;
+use program_io::reading::Source;
 
 // Room for the longest text.
 fn room() -> [u8; 98277]
@@ -14,6 +16,7 @@ fn room() -> [u8; 98277]
 }
 
 fn tell(
+    rt: &HostRuntime,
     first: End,
     first_memory: &[u8],
     first_writers: &[u64],
@@ -32,15 +35,16 @@ fn tell(
         &mut out,
     )
     .length();
-    program_io::put(b"compare", &out, length);
+    program_io::put(rt, b"compare", &out, length);
 }
 
 // The second capture, against what the first came to. `name`, its first `named` bytes, is what a message about the second begins with.
 fn against(
+    rt: &HostRuntime,
     first: End,
     first_memory: &[u8],
     first_writers: &[u64],
-    second: i32,
+    second: &mut Source,
     name: &[u8],
     named: usize,
 ) {
@@ -48,18 +52,27 @@ fn against(
     let mut writers = [0u64; 1717];
     let played = capture_file::play(second, &mut memory, &mut writers);
     let end = played.end;
-    if played.failed {
-        program_io::fail(name, named);
+    if let Some(error) = played.failed {
+        program_io::fail(rt, name, named, error);
         return;
     }
-    tell(first, first_memory, first_writers, end, &memory, &writers);
+    tell(
+        rt,
+        first,
+        first_memory,
+        first_writers,
+        end,
+        &memory,
+        &writers,
+    );
 }
 
 fn compare(
-    first: i32,
+    rt: &HostRuntime,
+    first: &mut Source,
     first_name: &[u8],
     first_named: usize,
-    second: i32,
+    second: &mut Source,
     second_name: &[u8],
     second_named: usize,
 ) {
@@ -67,31 +80,49 @@ fn compare(
     let mut writers = [0u64; 1717];
     let played = capture_file::play(first, &mut memory, &mut writers);
     let end = played.end;
-    if played.failed {
-        program_io::fail(first_name, first_named);
+    if let Some(error) = played.failed {
+        program_io::fail(rt, first_name, first_named, error);
         return;
     }
     // Of a first capture that is bad, the line is told whatever the second is, and that one is not read.
     let End::Whole(_, _) = end else {
-        tell(end, &memory, &writers, end, &memory, &writers);
+        tell(rt, end, &memory, &writers, end, &memory, &writers);
         return;
     };
-    against(end, &memory, &writers, second, second_name, second_named);
+    against(
+        rt,
+        end,
+        &memory,
+        &writers,
+        second,
+        second_name,
+        second_named,
+    );
 }
 
 // Whether something is wrong with the arguments. Then it has been said.
-fn is_wrong_call() -> bool {
-    let words = os::arg_count();
-    if words < 3 {
-        program_io::wrong_call(b"compare", b"too few arguments", b"compare FIRST SECOND");
-        return true;
-    }
-    if 3 < words {
-        program_io::wrong_call(b"compare", b"too many arguments", b"compare FIRST SECOND");
-        return true;
-    }
-    if program_io::is_standard_input(1) && program_io::is_standard_input(2) {
+fn is_wrong_call(rt: &HostRuntime) -> bool {
+    if !program_io::is_given(rt, 2) {
         program_io::wrong_call(
+            rt,
+            b"compare",
+            b"too few arguments",
+            b"compare FIRST SECOND",
+        );
+        return true;
+    }
+    if program_io::is_given(rt, 3) {
+        program_io::wrong_call(
+            rt,
+            b"compare",
+            b"too many arguments",
+            b"compare FIRST SECOND",
+        );
+        return true;
+    }
+    if program_io::is_standard_input(rt, 1) && program_io::is_standard_input(rt, 2) {
+        program_io::wrong_call(
+            rt,
             b"compare",
             b"only one of the two can be standard input",
             b"compare FIRST SECOND",
@@ -101,29 +132,36 @@ fn is_wrong_call() -> bool {
     false
 }
 
-fn main() {
-    if program_io::helped(b"compare", b"compare FIRST SECOND") {
+fn main(rt: HostRuntime) {
+    if program_io::helped(&rt, b"compare", b"compare FIRST SECOND") {
         return;
     }
-    if is_wrong_call() {
+    if is_wrong_call(&rt) {
         return;
     }
-    let mut first_name = io::large_buffer();
-    let first = program_io::open_input(b"compare", 1, &mut first_name);
-    if first.fd < 0 {
+    let mut first_name = program_io::large_buffer();
+    let Input {
+        source: first,
+        named: first_named,
+    } = program_io::open_input(&rt, b"compare", 1, &mut first_name);
+    let Some(mut first) = first else {
         return;
-    }
-    let mut second_name = io::large_buffer();
-    let second = program_io::open_input(b"compare", 2, &mut second_name);
-    if second.fd < 0 {
+    };
+    let mut second_name = program_io::large_buffer();
+    let Input {
+        source: second,
+        named: second_named,
+    } = program_io::open_input(&rt, b"compare", 2, &mut second_name);
+    let Some(mut second) = second else {
         return;
-    }
+    };
     compare(
-        first.fd,
+        &rt,
+        &mut first,
         &first_name,
-        first.named,
-        second.fd,
+        first_named,
+        &mut second,
         &second_name,
-        second.named,
+        second_named,
     );
 }

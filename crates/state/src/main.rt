@@ -3,35 +3,38 @@
 // is bad. The capture is the file that the argument names, or standard input; it is never held as a whole.
 #![tactic(auto)]
 
+use program_io::Input;
+use program_io::reading::Source;
+
 const USAGE: [u8; 15] = *b"state [CAPTURE]";
 
-fn state(fd: i32, name: &[u8], named: usize) {
+fn state(rt: &HostRuntime, source: &mut Source, name: &[u8], named: usize) {
     let mut memory = [0u8; 1717];
     let mut writers = [0u64; 1717];
-    let followed = trace_file::follow(b"state", fd, false, &mut memory, &mut writers);
+    let followed = trace_file::follow(rt, b"state", source, false, &mut memory, &mut writers);
     let end = followed.end;
     let tally = followed.tally;
-    if followed.failed {
-        program_io::fail(name, named);
+    if let Some(error) = followed.failed {
+        program_io::fail(rt, name, named, error);
         return;
     }
-    let mut out = io::buffer();
+    let mut out = program_io::buffer();
     let length = chip_text::chip_text(end, tally, &mut out).length();
-    program_io::put(b"state", &out, length);
+    program_io::put(rt, b"state", &out, length);
 }
 
-fn main() {
-    if program_io::helped(b"state", &USAGE) {
+fn main(rt: HostRuntime) {
+    if program_io::helped(&rt, b"state", &USAGE) {
         return;
     }
-    if 2 < os::arg_count() {
-        program_io::wrong_call(b"state", b"too many arguments", &USAGE);
+    if program_io::is_given(&rt, 2) {
+        program_io::wrong_call(&rt, b"state", b"too many arguments", &USAGE);
         return;
     }
-    let mut name = io::large_buffer();
-    let input = program_io::open_input(b"state", 1, &mut name);
-    if input.fd < 0 {
+    let mut name = program_io::large_buffer();
+    let Input { source, named } = program_io::open_input(&rt, b"state", 1, &mut name);
+    let Some(mut source) = source else {
         return;
-    }
-    state(input.fd, &name, input.named);
+    };
+    state(&rt, &mut source, &name, named);
 }
