@@ -184,75 +184,76 @@ fn at_once(pins: u64, events: &[u16], out: &mut [u8], at: usize) -> usize {
 }
 
 // No case has more than 4,096 bytes. Each is put out by itself; whether the system took it.
-fn play(name: &[u8], pins: u64, events: &[u16]) -> bool {
-    let mut out = io::large_buffer();
+fn play(rt: &HostRuntime, name: &[u8], pins: u64, events: &[u16]) -> bool {
+    let mut out = program_io::large_buffer();
     let mut next = print::bytes(b"case ", &mut out, 0);
     next = print::bytes(name, &mut out, next);
     next = print::byte(b'\n', &mut out, next);
     next = step_by_step(pins, events, &mut out, next);
     next = at_once(pins, events, &mut out, next);
-    program_io::put(b"cases_run", &out, next)
+    program_io::put(rt, b"cases_run", &out, next)
 }
 
 // X and Y commands, and the address counter at its ends.
-fn addresses() -> bool {
-    play(b"put-5-2-167", 0, &cases::PUT_5_2_167)
-        && play(b"x-e4", 0, &cases::X_E4)
-        && play(b"x-e5", 0, &cases::X_E5)
-        && play(b"counter-v0-100-3", 0, &cases::COUNTER_V0_100_3)
-        && play(b"counter-v1-7-16", 0, &cases::COUNTER_V1_7_16)
-        && play(b"counter-v0-100-16", 0, &cases::COUNTER_V0_100_16)
-        && play(b"counter-v1-100-16", 0, &cases::COUNTER_V1_100_16)
+fn addresses(rt: &HostRuntime) -> bool {
+    play(rt, b"put-5-2-167", 0, &cases::PUT_5_2_167)
+        && play(rt, b"x-e4", 0, &cases::X_E4)
+        && play(rt, b"x-e5", 0, &cases::X_E5)
+        && play(rt, b"counter-v0-100-3", 0, &cases::COUNTER_V0_100_3)
+        && play(rt, b"counter-v1-7-16", 0, &cases::COUNTER_V1_7_16)
+        && play(rt, b"counter-v0-100-16", 0, &cases::COUNTER_V0_100_16)
+        && play(rt, b"counter-v1-100-16", 0, &cases::COUNTER_V1_100_16)
 }
 
 // Six bits in bank 16, the swap before them, columns from the right.
-fn stored_bytes() -> bool {
-    play(b"bank-16-ff", 0, &cases::BANK_16_FF)
-        && play(b"bank-16-swapped", 0, &cases::BANK_16_SWAPPED)
-        && play(b"mirror-x", 0, &cases::MIRROR_X)
+fn stored_bytes(rt: &HostRuntime) -> bool {
+    play(rt, b"bank-16-ff", 0, &cases::BANK_16_FF)
+        && play(rt, b"bank-16-swapped", 0, &cases::BANK_16_SWAPPED)
+        && play(rt, b"mirror-x", 0, &cases::MIRROR_X)
 }
 
 // The status byte, and what is read in its place.
-fn reads() -> bool {
-    play(b"sensor", 0, &cases::SENSOR)
-        && play(b"sensor-in-power-down", 0, &cases::SENSOR_IN_POWER_DOWN)
-        && play(b"read-rs-1", 0, &cases::READ_RS_1)
+fn reads(rt: &HostRuntime) -> bool {
+    play(rt, b"sensor", 0, &cases::SENSOR)
+        && play(rt, b"sensor-in-power-down", 0, &cases::SENSOR_IN_POWER_DOWN)
+        && play(rt, b"read-rs-1", 0, &cases::READ_RS_1)
 }
 
 // Addresses, control bytes, reset pulse, a refused event.
-fn bus() -> bool {
-    play(b"other-address", 0, &cases::OTHER_ADDRESS)
-        && play(b"address-pins-1", 1, &cases::ADDRESS_PINS_1)
-        && play(b"reset-keeps-memory", 0, &cases::RESET_KEEPS_MEMORY)
-        && play(b"refused-event", 0, &cases::REFUSED_EVENT)
-        && play(b"endless-commands", 0, &cases::ENDLESS_COMMANDS)
-        && play(b"single-data-bytes", 0, &cases::SINGLE_DATA_BYTES)
-        && play(b"byte-while-reading", 0, &cases::BYTE_WHILE_READING)
+fn bus(rt: &HostRuntime) -> bool {
+    play(rt, b"other-address", 0, &cases::OTHER_ADDRESS)
+        && play(rt, b"address-pins-1", 1, &cases::ADDRESS_PINS_1)
+        && play(rt, b"reset-keeps-memory", 0, &cases::RESET_KEEPS_MEMORY)
+        && play(rt, b"refused-event", 0, &cases::REFUSED_EVENT)
+        && play(rt, b"endless-commands", 0, &cases::ENDLESS_COMMANDS)
+        && play(rt, b"single-data-bytes", 0, &cases::SINGLE_DATA_BYTES)
+        && play(rt, b"byte-while-reading", 0, &cases::BYTE_WHILE_READING)
 }
 
 // Bytes of no row, addresses that there are not, the grey registers, rows that change nothing, and greys on the glass.
-fn commands() -> bool {
-    play(b"unknown-commands", 0, &cases::UNKNOWN_COMMANDS)
+fn commands(rt: &HostRuntime) -> bool {
+    play(rt, b"unknown-commands", 0, &cases::UNKNOWN_COMMANDS)
         && play(
+            rt,
             b"taken-unknown-out-of-range",
             0,
             &cases::TAKEN_UNKNOWN_OUT_OF_RANGE,
         )
-        && play(b"grey-levels", 0, &cases::GREY_LEVELS)
-        && play(b"row-block-swapping", 0, &cases::ROW_BLOCK_SWAPPING)
-        && play(b"pulses-17-30-63", 0, &cases::PULSES_17_30_63)
+        && play(rt, b"grey-levels", 0, &cases::GREY_LEVELS)
+        && play(rt, b"row-block-swapping", 0, &cases::ROW_BLOCK_SWAPPING)
+        && play(rt, b"pulses-17-30-63", 0, &cases::PULSES_17_30_63)
 }
 
-fn all() -> bool {
-    play(b"example-13.1", 0, &example::EVENTS)
-        && addresses()
-        && stored_bytes()
-        && reads()
-        && bus()
-        && commands()
+fn all(rt: &HostRuntime) -> bool {
+    play(rt, b"example-13.1", 0, &example::EVENTS)
+        && addresses(rt)
+        && stored_bytes(rt)
+        && reads(rt)
+        && bus(rt)
+        && commands(rt)
 }
 
 // It ends at the first case that the system does not take, which has been said.
-fn main() {
-    all();
+fn main(rt: HostRuntime) {
+    all(&rt);
 }
