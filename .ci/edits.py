@@ -4,13 +4,14 @@ It has to stand at the edited place: in the proof of a function that was edited,
 lemma that names it; a definition stands also for those that are built on it. And it has to be of a kind in FACTS.
 rt passes over errors that only follow from another one (`.. was not admitted`) and over proof files that name a fact
 which the edited code does not ask for. All else is a fault: an edit that was not tried, a name out of scope, only such
-proof files, a limit of the prover, a definition that is refused itself.
+proof files, a limit of the prover, a definition that is refused itself. Where an edit renames a goal, its answer is such
+a proof file, and then rt tells of the goal that it is not proved: that is a fault too, but where rt has values for it.
 
 An edit `over_the_wall_..` is one of the compiler's wall: there a crate or a body that can't be had is the fact.
 
-rt tells no more than the beginning of a refusal. Where that does not show the kind, or where it is one that a proof
-which merely does not fit gives too, and the edit does not keep the shape of the code, the edit is made in a copy and
-checked there, and the whole refusal is looked at.
+rt tells no more than the beginning of a refusal. Where that does not show the kind, or where a goal is not proved, or
+where it is a kind that a proof which merely does not fit gives too, and the edit does not keep the shape of the code, the
+edit is made in a copy and checked there, and all that is said is looked at.
 
     edits.py LOG            the edits of all crates, by what rt ci or rt must-fail said; - is standard input
     edits.py LOG CRATE..    those of these crates
@@ -49,6 +50,7 @@ NO_FACT = (r"has no `|has no field|is not a field of|not in scope|does not use t
 OTHER_FACT = r"expected type `[^`]*\bGoals\.[^`]*`,?\s+but this has type `[^`]*\bGoals\."
 FOLLOWS = r"not admitted"
 TAKEN_AWAY = r"has no `|has no field|is not in scope"
+NOT_PROVED = r"it is not proved that (?!.*; the facts known there allow )"
 WALL = r"the module `\S+` cannot be had|cannot be unfolded here|this module may not unfold it|does not unfold here"
 
 # What rt says of an edit: its verdict, the crate and the edit, and the beginning of the first refusal.
@@ -80,15 +82,23 @@ def refusal(entry):
     return found and Refusal(found[2], int(found[3] or 0), entry[found.end():])
 
 
-def refusals(log):
-    """What the log of a check refuses, in its order: errors, and behind them facts that no proof was found for.
-
-    As rt does, it passes over proof files that name what the edit took away, where something else is refused."""
+def all_refusals(log):
+    """What the log of a check refuses, in its order: errors, and behind them facts that no proof was found for."""
     entries = re.split(r"\n(?! )", log)
     errors = [refusal(entry) for entry in entries if not entry.startswith("note: ")]
     notes = [refusal(entry) for entry in entries if entry.startswith("note: ")]
-    told = [error for error in errors if error and not re.search(FOLLOWS, head(error))] + [note for note in notes if note]
-    return [one for one in told if not (one.path.startswith("proofs/") and re.search(TAKEN_AWAY, head(one)))] or told
+    return [error for error in errors if error and not re.search(FOLLOWS, head(error))] + [note for note in notes if note]
+
+
+def names_gone(refusal):
+    """Whether it is of a file of proofs that names what the edit took away."""
+    return refusal.path.startswith("proofs/") and bool(re.search(TAKEN_AWAY, head(refusal)))
+
+
+def refusals(log):
+    """The same as rt chooses: without proof files that name what the edit took away, where something else is refused."""
+    found = all_refusals(log)
+    return [one for one in found if not names_gone(one)] or found
 
 
 def tried(log):
@@ -171,6 +181,11 @@ def touched(crate, names, files):
     return names | named_by(names, (crate / "src").rglob("*.rt"))
 
 
+def proof_of(path):
+    """The function that this file has the proof of."""
+    return path.parent.name.lstrip("+") if path.name in PROOF_FILES else ""
+
+
 def stands_at(copy, refusal, names):
     """Whether the error is at what the edit touches, given the names of the edited declarations."""
     path = copy / refusal.path
@@ -179,13 +194,15 @@ def stands_at(copy, refusal, names):
         return False
     definitions = list((copy / "specs").rglob("*.antt"))
     names = touched(copy, names, definitions if in_proof or path.suffix == ".rt" else definitions + [path])
-    return (path.parent.name.lstrip("+") if in_proof else at_line(path, refusal.line)) in names
+    return (proof_of(path) or at_line(path, refusal.line)) in names
 
 
-def judged(crate, edit, copy, first, is_whole):
+def judged(crate, edit, copy, first, gone=None):
     """(kind, None), or (None, what is wrong): of the edit of this crate, whose edited copy is first refused so.
 
-    (None, None) where the beginning of a refusal does not tell."""
+    With the functions whose proofs name what the edit took away, if the refusal is whole. Without, (None, None) where its
+    beginning does not tell."""
+    is_whole = gone is not None
     shown = f"{first.path}:{first.line}: {first.text[:300]}"
     names = edited(crate, edit)
     if edit.stem.startswith("over_the_wall_"):
@@ -198,8 +215,11 @@ def judged(crate, edit, copy, first, is_whole):
     if not stands_at(copy, first, set().union(*names.values()) - {""}):
         return None, f"not at what was edited: {shown}"
     unsure = kind in UNSURE and not keeps_shape(edit) and "twin" not in edit.read_text()
-    if (kind is None or unsure) and not is_whole:
+    not_proved = re.match(NOT_PROVED, first.text, re.S)
+    if (kind is None or unsure or not_proved) and not is_whole:
         return None, None
+    if not_proved and at_line(copy / first.path, first.line) in gone:
+        return None, f"only names that are gone: {shown}"
     if kind is None:
         return None, f"of no known kind: {shown}"
     if unsure:
@@ -215,14 +235,16 @@ def edited_copy(crate, edit, copy):
 
 
 def whole(crate, edit, first):
-    """All of the refusal that rt tells the beginning of, by a check of a copy."""
+    """All of the refusal that rt tells the beginning of, by a check of a copy; and the functions whose proofs name what the
+    edit took away."""
     with trial.room() as to:
         trial.copy_project(crate.name, to)
         copy = to / "crates" / crate.name
         for _ in trial.make(edit, copy):
             pass
-        found = refusals(trial.check(crate.name, to)[1])
-    return next((one for one in found if (one.path, one.line) == (first.path, first.line)), first)
+        log = trial.check(crate.name, to)[1]
+    gone = {proof_of(pathlib.Path(one.path)) for one in all_refusals(log) if names_gone(one)} - {""}
+    return next((one for one in refusals(log) if (one.path, one.line) == (first.path, first.line)), first), gone
 
 
 def judged_by(said, crate, edit):
@@ -234,8 +256,8 @@ def judged_by(said, crate, edit):
         return None, "the log gives no reason for the refusal"
     with trial.room() as copy:
         edited_copy(crate, edit, copy)
-        found = judged(crate, edit, copy, first, is_whole=False)
-        return found if any(found) else judged(crate, edit, copy, whole(crate, edit, first), is_whole=True)
+        found = judged(crate, edit, copy, first)
+        return found if any(found) else judged(crate, edit, copy, *whole(crate, edit, first))
 
 
 def judge_all(log, names):

@@ -78,6 +78,12 @@ BREAKS = "`omega`: the goal does not follow from what it read. All of that holds
 NOTE = "note: src/lib.rt:3:1: it is not proved that what the function ensures holds when it returns (`returns`)"
 VALUES = NOTE + "; the facts known there allow values at which this goal i"
 GAVE_UP = NOTE + "; `search` gave up at one of its limits"
+NOTE_WITHIN = "note: src/lib.rt:11:5: it is not proved that what the function ensures holds when it returns (`returns-if-n-le101`)"
+VALUES_WITHIN = NOTE_WITHIN + "; the facts known there allow values at which this goal is false: `n` = 101"
+GOAL_GONE = ("./proofs/+within/Answers.antt:2:1: error: `returns-if-n-le100`: `goal.returns-if-n-le100`: module "
+             "`Rattle.sample.proofs.+within.Goals` has no `returns-if-n-le100` that can be named from here\n")
+FACT_GONE = ("./proofs/+within/Answers.antt:2:27: error: `returns`: record `Rattle.sample.proofs.+within.View.In` has no field "
+             "`if-n-le100` (nearest: .if-n-le101)\n  the fields that can be named here are `args`, `if-n-le101`\n")
 ELSEWHERE = "./proofs/Laws.antt:5:18: error: `within-law`: " + BREAKS
 SCOPE = "`half_of` is not in scope: add `use Half.{half_of}` at the top of the file"
 OTHER_GOAL = "expected type `half.Goals.returns`, but this has type `half.Goals.returns-then-n-eq0`"
@@ -97,9 +103,13 @@ CASES = [
     ("number_in_another_shape", OTHER_SHAPE, REFUSED + RETURN + DIFFER, FOLLOWS + RETURN + NUMBERS,
      "the proof has another number"),
     ("type_at_a_return", CODE, REFUSED + RETURN + EXPECTED, None, "the proof has another type"),
-    ("no_proof_file", CODE, REFUSED + NOTE, None, "no proof was found"),
+    ("no_proof_file", CODE, REFUSED + NOTE, NOTE + "\n", "no proof was found"),
     ("no_proof_file_and_values", CODE, REFUSED + VALUES, None, "values break the goal"),
-    ("no_proof_file_and_a_limit", CODE, REFUSED + GAVE_UP, None, "no proof was found"),
+    ("no_proof_file_and_a_limit", CODE, REFUSED + GAVE_UP, GAVE_UP + "\n", "no proof was found"),
+    ("goal_renamed", CONSTANT, REFUSED + NOTE_WITHIN, GOAL_GONE + NOTE_WITHIN + "\n", "only names that are gone"),
+    ("fact_of_a_goal_renamed", CONSTANT, REFUSED + NOTE_WITHIN, FACT_GONE + NOTE_WITHIN + "\n", "only names that are gone"),
+    ("goal_renamed_and_values", CONSTANT, REFUSED + NOTE_WITHIN, GOAL_GONE + VALUES_WITHIN + "\n", "values break the goal"),
+    ("goal_renamed_elsewhere", CODE, REFUSED + NOTE, GOAL_GONE + NOTE + "\n", "no proof was found"),
     ("constant", CONSTANT, REFUSED + WITHIN + DIFFER, None, "the proof has another type"),
     ("definition_at_its_law", DEFINITION, REFUSED + LAW + BREAKS, None, "values break the goal"),
     ("definition_at_a_number", DEFINITION.replace("n / 3", "n / 2 / 2"), REFUSED + LAW + SIDES, LAW + EQUAL,
