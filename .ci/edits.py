@@ -56,7 +56,7 @@ WALL = r"the module `\S+` cannot be had|cannot be unfolded here|this module may 
 # What rt says of an edit: its verdict, the crate and the edit, and the beginning of the first refusal.
 TRIED = re.compile(r"rt: must-fail (\w+)/(\S+)\.edit: (.*)")
 REFUSED = "refused, as it must be: "
-PLACE = re.compile(r"(note: )?(?:\./)?(\S+?)(?::(\d+):\d+)?: (?:error(?:\[[\w-]+\])?: |(?=it is not proved))")
+PLACE = re.compile(r"(note: )?(?:\./)?(\S+?)(?::(\d+):\d+)?: (?:error(?:\[[\w-]+\])?: |(?=it is not proved|`search` found no proof))")
 
 RUST_ITEM = re.compile(r"^ *(?:pub )?(?:extern \"C\" )?(?:fn|const|static|struct|enum|impl) (\w+)", re.M)
 LEMMA_ITEM = re.compile(r"^(?!--|use |pub use |unfolding |mod |pub mod )"

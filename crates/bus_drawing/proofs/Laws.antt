@@ -29,7 +29,7 @@ use Rattle.bus.proofs.Picks.{found}
 use Rattle.bus.proofs.Reach.{four-pins}
 use Rattle.bus.proofs.Refusals.{sound-fit}
 use Rattle.bus_drawing.specs.Demand3.{DrawsOnBus}
-use Rattle.bus_drawing.proofs.Demand3.{demand-3-on-bus}
+use Rattle.bus_drawing.proofs.OnBus.{demand-3-on-bus}
 
 -- ---- which buses these laws speak of
 
