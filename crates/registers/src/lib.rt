@@ -13,7 +13,7 @@ pub mod reversed;
 pub mod rows;
 
 // The registers of the data sheet's bit table, in document 01's order. H is the command page.
-#[derive(Clone, Copy)]
+#[derive(Clone, Copy, Debug, PartialEq, Eq, Hash)]
 pub struct Registers {
     pub h: u8,
     pub data_order: u8,
@@ -47,7 +47,7 @@ pub struct Registers {
 }
 
 // Where the bus stands. `true` is RS 1, display data; `false` is RS 0, a command.
-#[derive(Clone, Copy)]
+#[derive(Clone, Copy, Debug, PartialEq, Eq, Hash)]
 pub enum Phase {
     Idle,
     AddressAwaited,
@@ -60,7 +60,7 @@ pub enum Phase {
 }
 
 // How many pixels of the glass have the value 0, 1, 2 and 3.
-#[derive(Clone, Copy)]
+#[derive(Clone, Copy, Debug, PartialEq, Eq, Hash)]
 pub struct PixelCounts {
     pub zeros: u16,
     pub ones: u16,
@@ -70,7 +70,7 @@ pub struct PixelCounts {
 
 // The chip's record: the registers, the pins SA, the status byte TR, the last RS, the bus phase and the pixels by value. The event count is the bus's
 // and stands beside it.
-#[derive(Clone, Copy)]
+#[derive(Clone, Copy, Debug, PartialEq, Eq, Hash)]
 pub struct Chip {
     pub registers: Registers,
     pub pins: u8,
@@ -123,14 +123,8 @@ impl Phase {
         ensures { result ≡ phase_rs self }
     {
         match self {
-            Phase::Idle => false,
-            Phase::AddressAwaited => false,
-            Phase::Ignoring => false,
-            Phase::ControlAwaited => false,
-            Phase::OneByte(rs) => rs,
-            Phase::EndlessBytes(rs) => rs,
-            Phase::Reading => false,
-            Phase::ReadEnded => false,
+            Phase::OneByte(rs) | Phase::EndlessBytes(rs) => rs,
+            _ => false,
         }
     }
 }
@@ -168,40 +162,27 @@ impl Chip {
     pub fn allowed(self) -> bool
         ensures { result ≡ allowed self }
     {
-        let registers = self.registers;
-        let pixels = self.pixels;
-        registers.allowed() & (self.pins <= 3) & pixels.allowed()
+        self.registers.allowed() & (self.pins <= 3) & self.pixels.allowed()
     }
 
-    // The same record in another phase. A field that holds an enum is not stored to: the struct is made anew.
+    // The same record in another phase.
     pub fn in_phase(self, phase: Phase) -> Self
         ensures { result ≡ in_phase self phase }
     {
-        let registers = self.registers;
-        let pixels = self.pixels;
-        Self {
-            registers,
-            pins: self.pins,
-            status: self.status,
-            last_rs: self.last_rs,
-            phase,
-            pixels,
-        }
+        Self { phase, ..self }
     }
 
     // The same record with other registers.
-    pub fn with_registers(mut self, registers: Registers) -> Self
+    pub fn with_registers(self, registers: Registers) -> Self
         ensures { result ≡ with_registers self registers }
     {
-        self.registers = registers;
-        self
+        Self { registers, ..self }
     }
 
     // The same record with other counts of pixels.
-    pub fn with_pixels(mut self, pixels: PixelCounts) -> Self
+    pub fn with_pixels(self, pixels: PixelCounts) -> Self
         ensures { result ≡ with_pixels self pixels }
     {
-        self.pixels = pixels;
-        self
+        Self { pixels, ..self }
     }
 }
