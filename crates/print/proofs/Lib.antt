@@ -1,7 +1,7 @@
 pub mod CodeWays
 pub mod Digits
 pub mod Laws
-pub mod Whole
+pub mod WholeTexts
 pub mod Writing
 pub mod Wrong
 pub mod Chosen

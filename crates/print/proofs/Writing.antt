@@ -11,7 +11,9 @@ use lib.ListN.{length, get_or, take, drop, set, length-append, length-set, get_o
 use lib.Seq.{sets, set_out, length-sets, sets-eq, take_at, take_all, length-take-le, get_or-append-add}
 use Rattle.text.specs.Text.{count_of}
 use Rattle.text.proofs.Finding.{count-append}
+use Rattle.print.specs.declared.Printout.{Printout}
 use Rattle.print.specs.Printed.{top, place_after, Wrote, parts_from}
+use Rattle.print.specs.Prints.{Prints}
 
 -- ---- the place after n bytes
 
@@ -176,3 +178,18 @@ wrote-read {l} {m} {i} {j} {xs} h w =
 pub wrote-all : {l m xs : List ℕ} {j : ℕ} → length xs ≡ length l → Wrote l 0 xs m j → m ≡ xs
 wrote-all {l} {m} {xs} e w =
     sym (take_all (0 + length xs) m (omega (arith, wrote-length w, zero-add (length xs)))) ∙ wrote-read (omega (arith, zero-add (length xs))) w
+
+-- ---- one text printed after the other
+
+pub prints_then : {p q r : Printout} {xs ys : List ℕ} → Prints p xs q → Prints q ys r → Prints p (xs ++ ys) r
+prints_then a b = record { sized = a.sized; buffer = b.buffer ∙ a.buffer; wrote = wrote_then a.sized a.wrote b.wrote }
+
+pub prints_none : (p : Printout) → length p.out.now ≤ top → p.at ≤ top → Prints p [] p
+prints_none p sized h = record { sized = sized; buffer = refl; wrote = wrote_none _ _ h }
+
+pub prints-same : {p q : Printout} {xs ys : List ℕ} → xs ≡ ys → Prints p xs q → Prints p ys q
+prints-same {p} {q} e a = subst (λ (zs : List ℕ). Prints p zs q) e a
+
+-- what was printed of a value that the code knows by its variant, or by a test
+pub prints-known : {A : Type 0} (f : A → List ℕ) (known : A) {v : A} {p q : Printout} → v ≡ known → Prints p (f known) q → Prints p (f v) q
+prints-known f known e a = prints-same (ap f (sym e)) a

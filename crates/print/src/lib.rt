@@ -2,9 +2,13 @@
 // place after all of its bytes, so that a result above the length shows that there was no room, and how much is needed.
 #![tactic(auto)]
 
-ghost use Rattle.std.specs.Prelude.{[], ◌∷◌, ◌++◌, ◌≡◌, ◌+◌};
+ghost use Rattle.std.specs.Prelude.{[], ◌∷◌, ◌++◌, ◌≡◌, ◌+◌, ◌≤◌, List, ℕ, length};
 ghost use Rattle.print.specs.Chosen.{named_line};
-ghost use Rattle.print.specs.Printed.{decimal_of, place_after, Wrote, written_number, written_length};
+ghost use Rattle.print.specs.Printed.{decimal_of, place_after, top, Wrote, written_number, written_length, output, whole_text};
+ghost use Rattle.print.specs.declared.Unprinted.TheVariants as unprinted;
+ghost use Rattle.print.specs.Prints.{Prints, AlwaysPrints, written_of};
+
+use refusals::Refusal;
 
 // How the writing of a whole text ended: its length, the length that is needed where the output is shorter, or the number of a refusal.
 #[derive(Clone, Copy)]
@@ -112,4 +116,93 @@ pub fn decimal_plus(n: u64, k: u8, out: &mut [u8], at: usize) -> usize
     }
     let next = decimal(tens, out, at);
     byte(48 + (units % 10) as u8, out, next)
+}
+
+// A buffer that text is printed into, and the place after what was printed. The buffer takes what it has places for; the place goes on.
+#[derive(Drop)]
+pub struct Printout<'a> {
+    pub out: &'a mut [u8],
+    pub at: usize,
+}
+
+impl<'a> Printout<'a> {
+    // One byte.
+    pub fn byte(&mut self, b: u8)
+        ensures { Prints self.old (b ∷ []) self.new }
+    {
+        self.at = byte(b, self.out, self.at);
+    }
+
+    // All of these bytes.
+    pub fn bytes(&mut self, s: &[u8])
+        ensures { Prints self.old s.now self.new }
+    {
+        self.at = bytes(s, self.out, self.at);
+    }
+
+    // The number n in decimal.
+    pub fn decimal(&mut self, n: u64)
+        ensures { Prints self.old (decimal_of n) self.new }
+    {
+        self.at = decimal(n, self.out, self.at);
+    }
+
+    // The number n, and the byte that parts it from what follows.
+    pub fn field(&mut self, n: u64, end: u8)
+        ensures { Prints self.old (decimal_of n ++ end ∷ []) self.new }
+    {
+        self.decimal(n);
+        self.byte(end);
+    }
+
+    // A line: a name, a tab and a number.
+    pub fn named_line(&mut self, name: &[u8], n: u64)
+        ensures { Prints self.old (named_line name.now n) self.new }
+    {
+        self.at = named_line(name, n, self.out, self.at);
+    }
+
+    // The sum n + k in decimal, also where no machine word holds it.
+    pub fn decimal_plus(&mut self, n: u64, k: u8)
+        ensures { Prints self.old (decimal_of (n + k)) self.new }
+    {
+        self.at = decimal_plus(n, k, self.out, self.at);
+    }
+}
+
+// Why a whole text was not printed: the output is shorter than the length that is needed, or there is no such text.
+#[derive(Clone, Copy, Debug, PartialEq, Eq, Hash)]
+pub enum Unprinted {
+    Short { needed: usize },
+    Refused(Refusal),
+}
+
+impl From<Refusal> for Unprinted {
+    fn from(refusal: Refusal) -> Unprinted
+        ensures { result ≡ unprinted.Refused refusal }
+    {
+        Unprinted::Refused(refusal)
+    }
+}
+
+// The whole text that `write` prints, from the start of `out` on. It is printed twice: into no buffer, which tells its length, and then into `out` if
+// there is room.
+pub fn whole<F: Fn(&mut Printout)>(write: F, out: &mut [u8]) -> Result<usize, Unprinted>
+    requires { F.IsAlwaysCallable write }
+    ensures { (text : List ℕ) → length text ≤ top → AlwaysPrints (F.post write) text
+        → output (written_of result) out.new ≡ whole_text 0 text out.old }
+{
+    let mut none = [0u8; 0];
+    let mut measured = Printout {
+        out: &mut none,
+        at: 0,
+    };
+    write(&mut measured);
+    let needed = measured.at;
+    if out.len() < needed {
+        return Err(Unprinted::Short { needed });
+    }
+    let mut printed = Printout { out, at: 0 };
+    write(&mut printed);
+    Ok(printed.at)
 }

@@ -1,6 +1,6 @@
 use mathlib.Core.Path.{sym, ◌∙◌}
 use native.Mathlib.Omega.{arith}
-use Rattle.print.proofs.Whole.{whole-refused, whole-passed, whole-short, whole-written}
+use Rattle.print.proofs.WholeTexts.{whole-refused, whole-passed, whole-short, whole-written}
 use Rattle.chip_text.proofs.Bounds.{record-allowed, chip-text-bound}
 use Rattle.chip_text.proofs.text.Goals as goal
 

@@ -1,5 +1,5 @@
 use mathlib.Core.Path.{sym, ◌∙◌}
-use Rattle.print.proofs.Whole.{whole-refused, whole-passed}
+use Rattle.print.proofs.WholeTexts.{whole-refused, whole-passed}
 use Rattle.differences.specs.Differences.{memories}
 use Rattle.differences.proofs.CodeWays.{text-of-values}
 use Rattle.differences.proofs.Refusals.{none-refused}

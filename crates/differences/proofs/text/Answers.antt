@@ -1,6 +1,6 @@
 use native.Mathlib.Omega.{arith}
 use borrow.Author.Rules.{rules}
-use Rattle.print.proofs.Whole.{whole-short, whole-written}
+use Rattle.print.proofs.WholeTexts.{whole-short, whole-written}
 use Rattle.differences.specs.Differences.{compared}
 use Rattle.differences.proofs.Lines.{differences-bound}
 use Rattle.differences.proofs.text.Goals as goal

@@ -1,7 +1,7 @@
 use mathlib.Core.Path.{sym, ◌∙◌}
 use native.Mathlib.Omega.{arith}
 use borrow.Author.Rules.{rules}
-use Rattle.print.proofs.Whole.{whole-refused, whole-passed, whole-short, whole-written}
+use Rattle.print.proofs.WholeTexts.{whole-refused, whole-passed, whole-short, whole-written}
 use Rattle.listing.proofs.Lines.{listing-bound}
 use Rattle.capture.proofs.Refusals.{lengths-lent}
 use Rattle.listing.proofs.listing.Goals as goal

@@ -1,6 +1,6 @@
 use Prim.Native.Nat.{◌+◌}
 use native.Mathlib.Omega.{arith}
-use Rattle.print.proofs.Whole.{whole-short, whole-written}
+use Rattle.print.proofs.WholeTexts.{whole-short, whole-written}
 use Rattle.listing.proofs.Lines.{refused-bound}
 use Rattle.listing.proofs.refused_at.Goals as goal
 

@@ -1,5 +1,5 @@
 use native.Mathlib.Omega.{arith}
-use Rattle.print.proofs.Whole.{whole-short, whole-written}
+use Rattle.print.proofs.WholeTexts.{whole-short, whole-written}
 use Rattle.origin.proofs.Bounds.{Fits, origin-bound}
 use borrow.Author.Rules.{rules}
 use Rattle.origin.proofs.told.Goals as goal

@@ -1,5 +1,5 @@
 use native.Mathlib.Omega.{arith}
-use Rattle.print.proofs.Whole.{whole-refused, whole-passed, whole-short, whole-written}
+use Rattle.print.proofs.WholeTexts.{whole-refused, whole-passed, whole-short, whole-written}
 use Rattle.picture.proofs.Lines.{pixmap-bound}
 use Rattle.picture.proofs.pixmap.Goals as goal
 

@@ -36,3 +36,8 @@ whole-refused (suc x) k xs l e n = rw (← e)
 
 pub whole-passed : (x k : ℕ) (xs l : List ℕ) {o : Output} → x ≡ k → x ≡ 0 → o ≡ whole_text 0 xs l → o ≡ whole_text k xs l
 whole-passed x k xs l e z w = w ∙ ap (λ (n : ℕ). whole_text n xs l) (sym z ∙ e)
+
+-- r is what stands in the buffer once the printing is over
+module _ {none m r : List ℕ} {n j : ℕ} (xs l : List ℕ) (bound : length xs ≤ top) (measured : Wrote none 0 xs m n) where
+  pub whole-printed : {left : List ℕ} → n ≤ length l → Wrote l 0 xs left j → r ≡ left → output (Text j) r ≡ whole_text 0 xs l
+  whole-printed room w same = ap (λ (k : List ℕ). output (Text j) k) same ∙ whole-written xs l bound measured room w
