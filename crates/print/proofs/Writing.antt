@@ -1,7 +1,7 @@
 -- What was written one after the other was written together, and what it is where there is room.
 use mathlib.Core.Path.{◌≡◌, refl, sym, ap, ◌∙◌, subst}
 use mathlib.Core.Bool.{Bool, true, false, cond}
-use mathlib.Core.List.{List, [], ◌∷◌, ◌++◌, append_assoc}
+use mathlib.Core.List.{List, [], ◌∷◌, ◌++◌, append_assoc, append-nil}
 use Prim.Native.Nat.{ℕ, zero, suc, ◌+◌, ◌*◌, ◌-◌, ◌≤◌, ◌<◌}
 use native.Mathlib.Nat.{add-zero, zero-add, suc-add, add-suc, zero-mul, suc-mul}
 use native.Mathlib.Omega.{arith}
@@ -182,10 +182,10 @@ wrote-all {l} {m} {xs} e w =
 -- ---- one text printed after the other
 
 pub prints_then : {p q r : Printout} {xs ys : List ℕ} → Prints p xs q → Prints q ys r → Prints p (xs ++ ys) r
-prints_then a b = record { sized = a.sized; buffer = b.buffer ∙ a.buffer; wrote = wrote_then a.sized a.wrote b.wrote }
+prints_then a b = record { sized = a.sized; buffer = b.buffer ∙ a.buffer; wrote = λ h. let first = a.wrote h in wrote_then a.sized first (b.wrote (wrote-next first)) }
 
-pub prints_none : (p : Printout) → length p.out.now ≤ top → p.at ≤ top → Prints p [] p
-prints_none p sized h = record { sized = sized; buffer = refl; wrote = wrote_none _ _ h }
+pub prints_none : (p : Printout) → length p.out.now ≤ top → Prints p [] p
+prints_none p sized = record { sized = sized; buffer = refl; wrote = wrote_none _ _ }
 
 pub prints-same : {p q : Printout} {xs ys : List ℕ} → xs ≡ ys → Prints p xs q → Prints p ys q
 prints-same {p} {q} e a = subst (λ (zs : List ℕ). Prints p zs q) e a
@@ -193,3 +193,9 @@ prints-same {p} {q} e a = subst (λ (zs : List ℕ). Prints p zs q) e a
 -- what was printed of a value that the code knows by its variant, or by a test
 pub prints-known : {A : Type 0} (f : A → List ℕ) (known : A) {v : A} {p q : Printout} → v ≡ known → Prints p (f known) q → Prints p (f v) q
 prints-known f known e a = prints-same (ap f (sym e)) a
+
+-- parts 0 to k - 1, and then part k
+pub prints-part :
+    (f : ℕ → List ℕ) (k : ℕ) {p q r : Printout} → Prints p (parts_from f 0 k) q → Prints q (f k) r → Prints p (parts_from f 0 (k + 1)) r
+prints-part f k a b =
+    prints-same (sym (parts-split f k 0 0 k (k + 1) (omega arith) (omega arith) ∙ ap (λ (l : List ℕ). parts_from f 0 k ++ l) (append-nil (f k)))) (prints_then a b)

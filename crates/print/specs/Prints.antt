@@ -13,7 +13,7 @@ use Rattle.print.specs.declared.Unprinted.TheVariants.{Short, Refused}
 pub record Prints (p : Printout) (xs : List ℕ) (q : Printout) : Type 0 where
   pub sized : length p.out.now ≤ top
   pub buffer : q.out.ghost_name ≡ p.out.ghost_name
-  pub wrote : Wrote p.out.now p.at xs q.out.now q.at
+  pub wrote : p.at ≤ top → Wrote p.out.now p.at xs q.out.now q.at
 
 -- how the printing of a whole text ended, its refusal by number
 abbrev pub written_of : Result ℕ Unprinted → Written
