@@ -2,6 +2,7 @@
 use mathlib.Core.Path.{◌≡◌, refl, sym, ap, ◌∙◌}
 use mathlib.Core.Bool.{Bool, true, false, cond}
 use mathlib.Core.Logic.{◌⊎◌, inl, inr}
+use Rattle.std.specs.Prelude.{Result, Ok, Err}
 use Prim.Native.Nat.{ℕ, zero, suc, ◌+◌, ◌*◌, ◌/◌, ◌%◌, ◌-◌, ◌^◌, ◌≤◌, ◌<◌, zero-le}
 use native.Mathlib.Omega.{arith}
 use borrow.Author.Tests.{eq-eqb, ne_eqb, eqb-true, eqb-false}
@@ -64,7 +65,7 @@ uses-level level dark g e = let z : ◌≡◌ {A = ℕ} 0 1 = cc in absurd (omeg
 uses-level level undriven g e = let z : ◌≡◌ {A = ℕ} 0 1 = cc in absurd (omega arith)
 uses-level level (uses f) g e = record { register = f; used = refl; shows = cc }
 
-pub one-level : (g h : ℕ) → shown.Level g ≡ shown.Level h → g ≡ h
+pub one-level : (g h : ℕ) → ◌≡◌ {A = Result Shown ℕ} (Ok (shown.Level g)) (Ok (shown.Level h)) → g ≡ h
 one-level g h e = cc
 
 two-bits : (m n : ℕ) → 2 * (m % 2) + n % 2 ≤ 3
@@ -96,8 +97,8 @@ uses-one-of-four r ram byte g = go (is_off r) (is_undriven r.ps r.dp ram)
 -- ---- as a number
 
 -- no other answer has the number of a level: refusals are at most 5
-pub number-of-level : (s : Shown) (g : ℕ) → ((k : ℕ) → s ≡ shown.Refused k → k ≤ 5) → shown_number s ≡ 512 + g → s ≡ shown.Level g
-number-of-level (shown.Refused n) g bound e = absurd (omega (arith, bound n refl, e))
-number-of-level shown.Dark g bound e = absurd (omega (arith, e))
-number-of-level shown.Undriven g bound e = absurd (omega (arith, e))
-number-of-level (shown.Level h) g bound e = ap (λ (x : ℕ). shown.Level x) (omega (arith, e))
+pub number-of-level : (s : Result Shown ℕ) (g : ℕ) → ((k : ℕ) → s ≡ Err k → k ≤ 5) → shown_number s ≡ 512 + g → s ≡ Ok (shown.Level g)
+number-of-level (Err n) g bound e = absurd (omega (arith, bound n refl, e))
+number-of-level (Ok shown.Dark) g bound e = absurd (omega (arith, e))
+number-of-level (Ok shown.Undriven) g bound e = absurd (omega (arith, e))
+number-of-level (Ok (shown.Level h)) g bound e = ap (λ (x : ℕ). Ok (shown.Level x)) (omega (arith, e))

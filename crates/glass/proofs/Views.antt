@@ -2,6 +2,7 @@
 use mathlib.Core.Path.{◌≡◌, refl, sym, ap₂, ◌∙◌}
 use mathlib.Core.Bool.{Bool, true, false, cond, not, ◌||◌}
 use mathlib.Core.Logic.{◌⊎◌, inl, inr}
+use Rattle.std.specs.Prelude.{Ok, Err}
 use Prim.Native.Nat.{ℕ, zero, suc, ◌-◌, ◌%◌, ◌≤◌}
 use native.Mathlib.Omega.{arith}
 use borrow.Author.Tests.{le-ltb, eq-eqb, eqb-true}
@@ -14,12 +15,10 @@ use Rattle.registers.specs.Refusals.{refuse, ◌then◌}
 use Rattle.registers.specs.Record.{limits, allowed}
 use Rattle.registers.proofs.Within.{register-bound, allowed-registers, allowed-pins, allowed-counts, allowed-parts}
 use Rattle.registers.proofs.Put.{put-allowed}
-use Rattle.glass.specs.declared.answer.Shown.{Shown}
 use Rattle.glass.specs.declared.answer.Shown.TheVariants as shown
-use Rattle.glass.specs.declared.answer.Cell.TheVariants as cell
-use Rattle.glass.specs.Pixel.{Pixel, dark, undriven, uses, ram_row, value_in, is_off, is_undriven, register_used, pixel_of}
+use Rattle.glass.specs.Pixel.{dark, undriven, uses, ram_row, value_in, is_off, is_undriven, register_used, pixel_of}
 use Rattle.glass.specs.Changed.{changed}
-use Rattle.glass.specs.Glass.{off_glass, place_refusal, cell_unless, shown_by, shown_unless}
+use Rattle.glass.specs.Glass.{off_glass, place_refusal, told_unless, shown_by}
 
 -- ---- one register changed
 
@@ -56,28 +55,14 @@ my-bound c h = register-bound c.registers (allowed-registers c h) MY
 
 -- ---- refused answers
 
-pub never-refused : (level : ℕ → ℕ) (p : Pixel) (k : ℕ) → shown_by level p ≡ shown.Refused k → ⊥
-never-refused level dark k e = let z : ◌≡◌ {A = ℕ} 0 1 = cc in omega arith
-never-refused level undriven k e = let z : ◌≡◌ {A = ℕ} 0 1 = cc in omega arith
-never-refused level (uses g) k e = let z : ◌≡◌ {A = ℕ} 0 1 = cc in omega arith
+pub refused-by : {A : Type 0} (x k : ℕ) (a : A) → told_unless x a ≡ Err (suc k) → x ≡ suc k
+refused-by zero k a e = cc
+refused-by (suc j) k a e = cc
 
-pub refused-by : (x k : ℕ) (level : ℕ → ℕ) (p : Pixel) → shown_unless x (shown_by level p) ≡ shown.Refused (suc k) → x ≡ suc k
-refused-by zero k level p e = absurd (never-refused level p (suc k) e)
-refused-by (suc j) k level p e = cc
-
--- an answer that is no refusal is what is shown
-pub shown-through : (x : ℕ) (s a : Shown) → ((k : ℕ) → a ≡ shown.Refused k → ⊥) → shown_unless x s ≡ a → (x ≡ 0) × (s ≡ a)
-shown-through zero s a n e = (refl, e)
-shown-through (suc j) s a n e = absurd (n (suc j) (sym e))
-
-pub refused-place-by : (x k p : ℕ) → cell_unless x (cell.At p) ≡ cell.Refused (suc k) → x ≡ suc k
-refused-place-by zero k p e = let z : ◌≡◌ {A = ℕ} 0 1 = cc in absurd (omega arith)
-refused-place-by (suc j) k p e = cc
-
--- a place that was found was not refused
-pub found-at : (x p q : ℕ) → cell_unless x (cell.At p) ≡ cell.At q → (x ≡ 0) × (p ≡ q)
+-- an answer that is no refusal is the one that was found
+pub found-at : {A : Type 0} (x : ℕ) (p q : A) → told_unless x p ≡ Ok q → (x ≡ 0) × (p ≡ q)
 found-at zero p q e = (refl, cc)
-found-at (suc j) p q e = let z : ◌≡◌ {A = ℕ} 0 1 = cc in absurd (omega arith)
+found-at (suc j) p q e = (cc, cc)
 
 -- ---- dark
 

@@ -1,5 +1,5 @@
 -- Exactly when each refusal of the glass comes (document 01, "Numbers given back", 1, 2 and 5), and what it takes for a pixel to show a level.
-use Rattle.std.specs.Prelude.{true, false, List, [], ◌∷◌, ◌≡◌, ℕ, ◌≤◌, get_or}
+use Rattle.std.specs.Prelude.{true, false, List, [], ◌∷◌, Result, Ok, Err, ◌≡◌, ℕ, ◌≤◌, get_or}
 use Rattle.registers.specs.declared.Chip.{Chip}
 use Rattle.registers.specs.Record.{allowed}
 use Rattle.registers.specs.State.{places}
@@ -45,12 +45,16 @@ GlassWhen c memoryLength row column k = get_or (glass_conditions c memoryLength 
 
 -- ---- what is shown
 
--- where nothing is refused: dark, undriven, or a level of at most 64
+-- dark, undriven, or a level of at most 64
 abbrev pub Told : Shown → Type 0
 Told (shown.Level g) = g ≤ 64
 Told shown.Dark = Unit {0}
 Told shown.Undriven = Unit {0}
-Told (shown.Refused n) = ⊥
+
+-- nothing is refused, and that is shown
+abbrev pub Tells : Result Shown ℕ → Type 0
+Tells (Ok s) = Told s
+Tells (Err n) = ⊥
 
 -- the pixel at a row and column, of the byte that stands there
 abbrev pub pixel_on : Chip → List ℕ → ℕ → ℕ → Pixel

@@ -2,10 +2,12 @@
 #![tactic(auto)]
 
 ghost use Rattle.std.specs.Prelude.{◌≡◌, ◌≤◌};
+ghost use Rattle.refusals.specs.Numbers.{numbered};
 ghost use Rattle.glass.specs.Pixel.{place_at};
 ghost use Rattle.glass.specs.Glass.{cell_of, glass_of};
 
-use crate::answer::{Cell, Shown};
+use crate::answer::Shown;
+use refusals::Refusal;
 use registers::Chip;
 
 pub mod answer;
@@ -22,29 +24,22 @@ fn place_at(ram: usize, column: usize) -> usize
 }
 
 // What a row and column of the glass show of the display memory.
-pub fn glass(chip: Chip, memory: &[u8], row: usize, column: usize) -> Shown
-    ensures { result ≡ glass_of chip memory.now row column }
+#[tactic(auto, using(crate::proofs::CodeWays::refused_told, crate::proofs::CodeWays::accepted_told), unfolding(crate::specs::Glass::glass_of))]
+pub fn glass(chip: Chip, memory: &[u8], row: usize, column: usize) -> Result<Shown, Refusal>
+    ensures { numbered result ≡ glass_of chip memory.now row column }
 {
-    let refused = crate::refusal::of_glass(chip, memory.len(), row, column);
-    if refused != 0 {
-        return Shown::Refused(refused);
-    }
-    let registers = chip.registers;
-    let ram = crate::pixel::ram_row(registers.my, row);
+    refusal::of_glass(chip, memory.len(), row, column)?;
+    let ram = pixel::ram_row(chip.registers.my, row);
     let at = place_at(ram, column);
-    crate::pixel::shown(registers, ram, memory[at])
+    Ok(pixel::shown(chip.registers, ram, memory[at]))
 }
 
-// Which place of the memories, display bytes and writer numbers, a row and column of the glass show.
-pub fn place(chip: Chip, row: usize, column: usize) -> Cell
-    ensures { result ≡ cell_of chip row column }
+// Which place of the memories, display bytes and writer numbers, 0 to 1716, a row and column of the glass show.
+#[tactic(auto, using(crate::proofs::CodeWays::refused_told, crate::proofs::CodeWays::accepted_told), unfolding(crate::specs::Glass::cell_of))]
+pub fn place(chip: Chip, row: usize, column: usize) -> Result<u16, Refusal>
+    ensures { numbered result ≡ cell_of chip row column }
 {
-    let refused = crate::refusal::of_place(chip, row, column);
-    if refused != 0 {
-        return Cell::Refused(refused);
-    }
-    let registers = chip.registers;
-    let ram = crate::pixel::ram_row(registers.my, row);
-    let at = place_at(ram, column);
-    Cell::At(at as u16)
+    refusal::of_place(chip, row, column)?;
+    let ram = pixel::ram_row(chip.registers.my, row);
+    Ok(place_at(ram, column) as u16)
 }

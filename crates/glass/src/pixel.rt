@@ -102,7 +102,6 @@ pub fn shown(registers: Registers, ram: usize, byte: u8) -> Shown
     if is_undriven(registers.ps, registers.dp, ram) {
         return Shown::Undriven;
     }
-    let value = value_in(byte, ram);
-    let register = register_used(registers.d, registers.e, value);
+    let register = register_used(registers.d, registers.e, value_in(byte, ram));
     Shown::Level(level(registers, register))
 }
