@@ -1,27 +1,23 @@
 -- Ways through the code, over plain variables.
-use mathlib.Core.Path.{◌≡◌, refl, sym, subst, ◌∙◌}
-use mathlib.Core.Bool.{Bool, true, false, cond, ◌&&◌}
+use mathlib.Core.Path.{◌≡◌, refl, sym, ◌∙◌}
+use mathlib.Core.Bool.{Bool, true, cond, ◌&&◌}
 use mathlib.Core.List.{List}
 use Prim.Native.Nat.{ℕ, ◌+◌, ◌*◌, ◌-◌, ◌<◌, ◌≤◌}
 use native.Mathlib.Omega.{arith}
-use borrow.Author.Tests.{eq-eqb, ne_eqb, leb-true, ltb-true}
-use lib.Dec.{T, leb, ltb}
+use borrow.Author.Tests.{eq-eqb, ne_eqb}
 use lib.ListN.{length, get_or, drop, drop_of_length-le}
 use Rattle.text.specs.Decimal.{is_digit}
 use Rattle.text.proofs.Finding.{drop-next}
 use Rattle.text.proofs.Numbers.{and_both, digit-bounds}
 use Rattle.capture_lines.specs.declared.LineSoFar.{LineSoFar}
-use Rattle.capture_lines.specs.declared.LineSoFar.TheVariants.{Empty, Number, Bad}
+use Rattle.capture_lines.specs.declared.LineSoFar.TheVariants.{Empty, Number}
 use Rattle.capture_lines.specs.declared.Scanned.{Scanned}
 use Rattle.capture_lines.specs.Line.{newline}
-use Rattle.capture_lines.specs.SoFar.{is_pins, takes_digit, on_number, with_byte, scanned_from, PartlyScanned}
+use Rattle.capture_lines.specs.SoFar.{takes_digit, on_number, with_byte, scanned_from, PartlyScanned}
 
 -- a test by its value
 pub chosen : (t : Bool) (l a b : LineSoFar) → t ≡ true → l ≡ a → l ≡ cond t a b
 chosen t l a b e h = rw e h
-
-pub passed : (t : Bool) (l a b : LineSoFar) → t ≡ false → l ≡ b → l ≡ cond t a b
-passed t l a b e h = rw e h
 
 -- ---- digits
 
@@ -31,34 +27,15 @@ module _ (b : ℕ) (t : Bool) (e : t ≡ is_digit b) where
 
   -- one digit more behind n
   module _ (n : ℕ) (u : Bool) (eu : u ≡ takes_digit n) where
-    pub more-range : u && t ≡ true → (n < 100) × (48 ≤ b) × (b ≤ 57)
-    more-range h =
-        let tests = and_both u t h in
-        let range = digit-range tests.1 in
-        (ltb-true _ _ (and_both (ltb 0 n) (ltb n 100) (sym eu ∙ tests.0)).1, range.0, range.1)
-
     same_test : (v : Bool) → u && t ≡ v → takes_digit n && is_digit b ≡ v
     same_test v h = rw (← eu, ← e) h
 
     pub more : u && t ≡ true → Number (n * 10 + (b - 48)) ≡ on_number n b
     more h = chosen (takes_digit n && is_digit b) _ _ _ (same_test true h) refl
 
-    pub no_more : u && t ≡ false → Bad ≡ on_number n b
-    no_more h = passed (takes_digit n && is_digit b) _ _ _ (same_test false h) refl
-
-pub pins-range : (b : ℕ) (t : Bool) → t ≡ is_pins b → t ≡ true → 48 ≤ b
-pins-range b t e h = go (leb 48 b) refl (sym e ∙ h)
-  where
-    go : (l : Bool) → leb 48 b ≡ l → is_pins b ≡ true → 48 ≤ b
-    go true el is = leb-true _ _ el
-    go false el is = absurd (subst T (sym (rw el at is)) tt)
-
 -- ---- a line of a known kind
 
 module _ (known line : LineSoFar) (e : line ≡ known) where
-  pub with-byte-known : (b : ℕ) (l : LineSoFar) → l ≡ with_byte known b → l ≡ with_byte line b
-  with-byte-known b l h = rw e h
-
   pub partly-known : (part : List ℕ) (at : ℕ) (r : Scanned) → PartlyScanned part at known r → PartlyScanned part at line r
   partly-known part at r h = rw e h
 

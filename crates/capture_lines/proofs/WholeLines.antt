@@ -3,6 +3,7 @@ use mathlib.Core.Path.{◌≡◌, refl, sym, ap, subst, ◌∙◌}
 use mathlib.Core.Bool.{Bool, true, false, cond, ◌&&◌, ◌||◌}
 use mathlib.Core.List.{List, [], ◌∷◌, ◌++◌, append-nil}
 use mathlib.Core.Logic.{◌⊎◌, inl, inr, ⊎_elim}
+use Rattle.std.specs.Prelude.{Option, None, Some}
 use Prim.Native.Nat.{ℕ, zero, suc, ◌+◌, ◌*◌, ◌-◌, ◌/◌, ◌<◌, ◌≤◌}
 use native.Mathlib.Numerals.{add-one}
 use native.Mathlib.Omega.{arith}
@@ -23,7 +24,6 @@ use Rattle.capture_lines.specs.Events.{
   event_lines,
   Small,
   Digits,
-  no_line,
   line_of,
   long_line,
   line_of_digits,
@@ -40,11 +40,8 @@ use Rattle.capture_lines.specs.Events.{
 
 -- ---- a line by what its bytes say
 
-pub line_read : (t : Bool) (n e k : ℕ) → t ≡ true → e ≡ k → record { event = e; bytes = n } ≡ line_of n (cond t (Value k) Malformed)
+pub line_read : (t : Bool) (n e k : ℕ) → t ≡ true → e ≡ k → Some (record { event = e; bytes = n }) ≡ line_of n (cond t (Value k) Malformed)
 line_read t n e k h same = rw (h, same)
-
-pub none_read : (t : Bool) (n k : ℕ) → t ≡ false → no_line ≡ line_of n (cond t (Value k) Malformed)
-none_read t n k h = rw h
 
 -- ---- two digits or three, and t of the third
 
@@ -80,13 +77,13 @@ module _ (a b c : ℕ) (d : Digits a b c) where
   both = rw (d.first, d.second)
 
   pub digits-read :
-      record { event = a * 10 + b - 528 + c / 32 * ((a * 10 + b - 528) * 9 + c - 48); bytes = 3 + c / 32 } ≡ line_of_digits a b c
+      Some (record { event = a * 10 + b - 528 + c / 32 * ((a * 10 + b - 528) * 9 + c - 48); bytes = 3 + c / 32 }) ≡ line_of_digits a b c
   unfolding line_of_digits
   digits-read = ⊎_elim two three (third-digit c d.third)
     where
       two :
           (c ≡ newline) × (c / 32 ≡ 0)
-          → record { event = a * 10 + b - 528 + c / 32 * ((a * 10 + b - 528) * 9 + c - 48); bytes = 3 + c / 32 } ≡ line_of_digits a b c
+          → Some (record { event = a * 10 + b - 528 + c / 32 * ((a * 10 + b - 528) * 9 + c - 48); bytes = 3 + c / 32 }) ≡ line_of_digits a b c
       two h =
           let first = first_range in
           let second = second_range in
@@ -94,7 +91,7 @@ module _ (a b c : ℕ) (d : Digits a b c) where
 
       three :
           (48 ≤ c) × (c ≤ 57) × (c / 32 ≡ 1)
-          → record { event = a * 10 + b - 528 + c / 32 * ((a * 10 + b - 528) * 9 + c - 48); bytes = 3 + c / 32 } ≡ line_of_digits a b c
+          → Some (record { event = a * 10 + b - 528 + c / 32 * ((a * 10 + b - 528) * 9 + c - 48); bytes = 3 + c / 32 }) ≡ line_of_digits a b c
       three h =
           let first = first_range in
           let second = second_range in
@@ -103,15 +100,9 @@ module _ (a b c : ℕ) (d : Digits a b c) where
 
 -- ---- the test of two digits or three
 
-either : (t : Bool) (l : EventLine) → l ≡ cond t l l
+either : (t : Bool) (l : Option EventLine) → l ≡ cond t l l
 either true l = refl
 either false l = refl
-
--- s, t and u are what the code found
-pub long-tests :
-    (a b c d : ℕ) (s t u : Bool) → s ≡ is_leading a → t ≡ is_digit b → u ≡ is_digit c → s && t && (eqb c newline || (u && eqb d newline)) ≡ is_long a b c d
-unfolding is_long
-long-tests a b c d s t u es et eu = rw (es, et, eu)
 
 module _ (a b c d : ℕ) where
   pub long-digits : is_long a b c d ≡ true → Digits a b c
@@ -125,42 +116,39 @@ module _ (a b c d : ℕ) where
       go true e t = inl (eqb-true c newline e)
       go false e t = inr (and_both (is_digit c) (eqb d newline) t).0
 
-  pub long-read : (r : EventLine) → is_long a b c d ≡ true → r ≡ line_of_digits a b c → r ≡ long_line a b c d
+  pub long-read : (r : Option EventLine) → is_long a b c d ≡ true → r ≡ line_of_digits a b c → r ≡ long_line a b c d
   unfolding is_long long_line line_of_digits
   long-read r h e = e ∙ go (eqb c newline) (and_both (is_leading a && is_digit b) (eqb c newline || (is_digit c && eqb d newline)) h).1
     where
       go :
           (n : Bool) → n || (is_digit c && eqb d newline) ≡ true
           → cond n (line_of 3 (two_digits a b)) (line_of 4 (three_digits a b c))
-          ≡ cond n (line_of 3 (two_digits a b)) (cond (eqb d newline) (line_of 4 (three_digits a b c)) no_line)
+          ≡ cond n (line_of 3 (two_digits a b)) (cond (eqb d newline) (line_of 4 (three_digits a b c)) None)
       go true t = refl
       go false t = rw (and_both (is_digit c) (eqb d newline) t).1
 
-  pub not_long : is_long a b c d ≡ false → no_line ≡ long_line a b c d
+  pub not_long : is_long a b c d ≡ false → None ≡ long_line a b c d
   unfolding is_long long_line
   not_long h = go (is_leading a && is_digit b) (eqb c newline) (is_digit c) (eqb d newline) h
     where
       go :
           (s n t m : Bool) → s && (n || (t && m)) ≡ false
-          → no_line
+          → None
           ≡ cond n (line_of 3 (cond s (Value (digit_value a * 10 + digit_value b)) Malformed))
-          (cond m (line_of 4 (cond (s && t) (Value (digit_value a * 100 + digit_value b * 10 + digit_value c)) Malformed)) no_line)
+          (cond m (line_of 4 (cond (s && t) (Value (digit_value a * 100 + digit_value b * 10 + digit_value c)) Malformed)) None)
       go false true t m h = refl
-      go false false t m h = either m no_line
+      go false false t m h = either m None
       go true true t m h = absurd (subst T h tt)
-      go true false false m h = either m no_line
+      go true false false m h = either m None
       go true false true true h = absurd (subst T h tt)
       go true false true false h = refl
 
-  pub no-line-at : (r : EventLine) → r ≡ line_in a b c d → r.bytes ≡ 0 → (line_in a b c d).bytes ≡ 0
-  no-line-at r e h = ap (λ (l : EventLine). l.bytes) (sym e) ∙ h
-
   -- by the second byte
-  pub one-read : (r : EventLine) → b ≡ newline → r ≡ line_of 2 (one_digit a) → r ≡ line_in a b c d
+  pub one-read : (r : Option EventLine) → b ≡ newline → r ≡ line_of 2 (one_digit a) → r ≡ line_in a b c d
   unfolding line_in
   one-read r e h = rw (eq-eqb b newline e) h
 
-  pub more-read : (r : EventLine) → (b ≡ newline → ⊥) → r ≡ long_line a b c d → r ≡ line_in a b c d
+  pub more-read : (r : Option EventLine) → (b ≡ newline → ⊥) → r ≡ long_line a b c d → r ≡ line_in a b c d
   unfolding line_in
   more-read r n h = rw (ne_eqb b newline n) h
 
@@ -175,14 +163,15 @@ pub record LineAt (part : List ℕ) (at : ℕ) (r : EventLine) : Type 0 where
 -- p is what stands there before a newline
 number_read :
     (part p : List ℕ) (at n : ℕ) (r : EventLine) → 0 < n → at + n ≤ length part → drop at part ≡ p ++ newline ∷ drop (at + n) part
-    → r ≡ line_of n (number_of p) → (r.bytes ≡ 0 → ⊥) → LineAt part at r
-number_read part p at n r some within here e not_None = go (number_of p) refl e
+    → Some r ≡ line_of n (number_of p) → LineAt part at r
+number_read part p at n r some within here e = go (number_of p) refl e
   where
-    go : (v : numbers.Number) → number_of p ≡ v → r ≡ line_of n v → LineAt part at r
-    go Malformed q e = absurd (not_None (ap (λ (l : EventLine). l.bytes) e))
+    go : (v : numbers.Number) → number_of p ≡ v → Some r ≡ line_of n v → LineAt part at r
+    go Malformed q e = absurd (let z : ◌≡◌ {A = ℕ} 0 1 = cc e in omega arith)
     go (Value k) q e =
         let is = printed p k q in
-        subst (λ (l : EventLine). LineAt part at l) (sym e)
+        let same : r ≡ record { event = k; bytes = n } = cc e in
+        subst (λ (l : EventLine). LineAt part at l) (sym same)
         (record { some = some; within = within; small = is.small; written = here ∙ rw is.in-decimal })
 
 module _ (part : List ℕ) (at : ℕ) (inside : at + 3 < length part) where
@@ -207,25 +196,25 @@ module _ (part : List ℕ) (at : ℕ) (inside : at + 3 < length part) where
       drop-next part (at + i) (omega arith) ∙ ap (λ (j : ℕ). get_or part (at + i) 0 ∷ drop j part) k
 
   pub line_at :
-      (r : EventLine) → r ≡ line_in a b c d → (r.bytes ≡ 0 → ⊥) → LineAt part at r
+      (r : EventLine) → Some r ≡ line_in a b c d → LineAt part at r
   unfolding line_in long_line number_of
-  line_at r e not_None = go (eqb b newline) (eqb c newline) (eqb d newline) refl refl refl e
+  line_at r e = go (eqb b newline) (eqb c newline) (eqb d newline) refl refl refl e
     where
       go :
           (s t u : Bool) → eqb b newline ≡ s → eqb c newline ≡ t → eqb d newline ≡ u
-          → r ≡ cond s (line_of 2 (one_digit a)) (cond t (line_of 3 (two_digits a b)) (cond u (line_of 4 (three_digits a b c)) no_line))
+          → Some r ≡ cond s (line_of 2 (one_digit a)) (cond t (line_of 3 (two_digits a b)) (cond u (line_of 4 (three_digits a b c)) None))
           → LineAt part at r
       go true t u es et eu q =
-          number_read part (a ∷ []) at 2 r (omega arith) (omega arith) (rw (first, next 1 (omega arith), eqb-true b newline es)) q not_None
+          number_read part (a ∷ []) at 2 r (omega arith) (omega arith) (rw (first, next 1 (omega arith), eqb-true b newline es)) q
       go false true u es et eu q =
           number_read part (a ∷ b ∷ []) at 3 r (omega arith) (omega arith)
           (rw (first, next 1 (omega arith), next 2 (omega arith), eqb-true c newline et))
-          q not_None
+          q
       go false false true es et eu q =
           number_read part (a ∷ b ∷ c ∷ []) at 4 r (omega arith) (omega arith)
           (rw (first, next 1 (omega arith), next 2 (omega arith), next 3 (omega arith), eqb-true d newline eu))
-          q not_None
-      go false false false es et eu q = absurd (not_None (ap (λ (l : EventLine). l.bytes) q))
+          q
+      go false false false es et eu q = absurd (let z : ◌≡◌ {A = ℕ} 0 1 = cc q in omega arith)
 
 -- ---- one line more
 
@@ -259,27 +248,27 @@ one-more-line part from events count at r read room line =
 -- ---- which lines those are
 
 -- what is read at a place, and that no line stands near the end
-pub here-from : (part : List ℕ) (at : ℕ) (r : EventLine) → at + 3 < length part
+pub here-from : (part : List ℕ) (at : ℕ) (r : Option EventLine) → at + 3 < length part
     → r ≡ line_in (get_or part at 0) (get_or part (at + 1) 0) (get_or part (at + 2) 0) (get_or part (at + 3) 0) → line_from part at ≡ r
 unfolding line_from
 here-from part at r inside e = rw (lt-ltb (at + 3) (length part) inside) (sym e)
 
-near-end : (part : List ℕ) (at : ℕ) → length part ≤ at + 3 → (line_from part at).bytes ≡ 0
+near-end : (part : List ℕ) (at : ℕ) → length part ≤ at + 3 → line_from part at ≡ None
 unfolding line_from
 near-end part at h = rw (le-ltb (at + 3) (length part) h)
 
-from-none : (most : ℕ) (part : List ℕ) (at : ℕ) → (line_from part at).bytes ≡ 0 → lines_from most part at ≡ record { events = []; at = at }
+from-none : (most : ℕ) (part : List ℕ) (at : ℕ) → line_from part at ≡ None → lines_from most part at ≡ record { events = []; at = at }
 unfolding lines_from
 from-none zero part at h = refl
-from-none (suc most) part at h = rw (eq-eqb (line_from part at).bytes 0 h)
+from-none (suc most) part at h = rw h
 
 pub none-near-end : (most : ℕ) (part : List ℕ) (at : ℕ) → length part - 3 ≤ at → lines_from most part at ≡ record { events = []; at = at }
 none-near-end most part at h = from-none most part at (near-end part at (omega (arith, h)))
 
-from_one : (most k : ℕ) (part : List ℕ) (at : ℕ) (r : EventLine) → most ≡ suc k → line_from part at ≡ r → (r.bytes ≡ 0 → ⊥)
+from_one : (most k : ℕ) (part : List ℕ) (at : ℕ) (r : EventLine) → most ≡ suc k → line_from part at ≡ Some r
     → lines_from most part at ≡ before (r.event ∷ []) (lines_from k part (at + r.bytes))
 unfolding lines_from
-from_one most k part at r m e h = rw (m, e, ne_eqb r.bytes 0 h)
+from_one most k part at r m e = rw (m, e)
 
 -- so many are read, and the lines that are left make up those from the start
 pub record Reading (part : List ℕ) (from : ℕ) (memory events : List ℕ) (count at : ℕ) : Type 0 where
@@ -292,14 +281,14 @@ reading-starts part from memory = let all : length memory - 0 ≡ length memory 
 
 pub reading-goes-on :
     (part : List ℕ) (from : ℕ) (memory events : List ℕ) (count at : ℕ) (r : EventLine) → Reading part from memory events count at
-    → count < length events → line_from part at ≡ r → (r.bytes ≡ 0 → ⊥)
+    → count < length events → line_from part at ≡ Some r
     → Reading part from memory (set events count r.event) (count + 1) (at + r.bytes)
-reading-goes-on part from memory events count at r reading room e some =
+reading-goes-on part from memory events count at r reading room e =
     record {
       same = length-set events count r.event ∙ reading.same;
       left =
           rw (taken, append_snoc (take count events) r.event rest.events)
-          (ap (before (take count events)) (sym (from_one (length memory - count) (length memory - (count + 1)) part at r (omega (arith, reading.same)) e some))
+          (ap (before (take count events)) (sym (from_one (length memory - count) (length memory - (count + 1)) part at r (omega (arith, reading.same)) e))
           ∙ reading.left);
       behind =
           drop-set-lt (count + 1) events count r.event (omega arith)
@@ -337,8 +326,8 @@ module _ (part : List ℕ) (from : ℕ) (memory events : List ℕ) (count at : �
           ∙ ap (before (take count events)) none
           ∙ ap (λ (l : List ℕ). record { events = l; at = at }) (append-nil (take count events))
 
-  pub ends_at : (r : EventLine) → line_from part at ≡ r → r.bytes ≡ 0 → Ended
-  ends_at r e h = ends (from-none (length memory - count) part at (ap (λ (l : EventLine). l.bytes) e ∙ h))
+  pub ends_at : line_from part at ≡ None → Ended
+  ends_at h = ends (from-none (length memory - count) part at h)
 
   pub ends-near : length part ≤ at + 3 → Ended
   ends-near h = ends (from-none (length memory - count) part at (near-end part at h))

@@ -1,5 +1,5 @@
 -- Whole event lines, each with its newline: how they are written, and what is read of them.
-use Rattle.std.specs.Prelude.{Bool, true, cond, ◌&&◌, ◌||◌, List, [], ◌∷◌, ◌++◌, ◌⊎◌, ◌≡◌, ℕ, zero, suc, ◌+◌, ◌<◌, ◌≤◌, eqb, ltb, length, get_or, take, drop}
+use Rattle.std.specs.Prelude.{Bool, true, cond, Option, None, Some, ◌&&◌, ◌||◌, List, [], ◌∷◌, ◌++◌, ◌⊎◌, ◌≡◌, ℕ, zero, suc, ◌+◌, ◌<◌, ◌≤◌, eqb, ltb, length, get_or, take, drop}
 use Rattle.text.specs.declared.Number.{Number}
 use Rattle.text.specs.declared.Number.TheVariants.{Value, Malformed}
 use Rattle.text.specs.Decimal.{is_digit, is_leading, one_digit, two_digits, three_digits, decimal}
@@ -19,18 +19,15 @@ Small (e ∷ es) = (e < 1000) × Small es
 
 -- ---- the line that four bytes begin with
 
-abbrev pub no_line : EventLine
-no_line = record { event = 0; bytes = 0 }
-
 -- the line of a number with so many bytes
-abbrev pub line_of : ℕ → Number → EventLine
-line_of n (Value e) = record { event = e; bytes = n }
-line_of n Malformed = no_line
+abbrev pub line_of : ℕ → Number → Option EventLine
+line_of n (Value e) = Some (record { event = e; bytes = n })
+line_of n Malformed = None
 
-unfoldable pub long_line : ℕ → ℕ → ℕ → ℕ → EventLine
+unfoldable pub long_line : ℕ → ℕ → ℕ → ℕ → Option EventLine
 long_line a b c d =
     cond (eqb c newline) (line_of 3 (two_digits a b))
-    (cond (eqb d newline) (line_of 4 (three_digits a b c)) no_line)
+    (cond (eqb d newline) (line_of 4 (three_digits a b c)) None)
 
 -- two digits or three, the first of them no 0, and the newline
 unfoldable pub is_long : ℕ → ℕ → ℕ → ℕ → Bool
@@ -42,19 +39,19 @@ pub record Digits (a b c : ℕ) : Type 0 where
   pub second : is_digit b ≡ true
   pub third : (c ≡ newline) ⊎ (is_digit c ≡ true)
 
-unfoldable pub line_of_digits : ℕ → ℕ → ℕ → EventLine
+unfoldable pub line_of_digits : ℕ → ℕ → ℕ → Option EventLine
 line_of_digits a b c = cond (eqb c newline) (line_of 3 (two_digits a b)) (line_of 4 (three_digits a b c))
 
-unfoldable pub line_in : ℕ → ℕ → ℕ → ℕ → EventLine
+unfoldable pub line_in : ℕ → ℕ → ℕ → ℕ → Option EventLine
 line_in a b c d = cond (eqb b newline) (line_of 2 (one_digit a)) (long_line a b c d)
 
 -- ---- lines one after the other
 
 -- the line at a place of a part; none where fewer than four bytes are left
-unfoldable pub line_from : List ℕ → ℕ → EventLine
+unfoldable pub line_from : List ℕ → ℕ → Option EventLine
 line_from part at =
     cond (ltb (at + 3) (length part)) (line_in (get_or part at 0) (get_or part (at + 1) 0) (get_or part (at + 2) 0) (get_or part (at + 3) 0))
-    no_line
+    None
 
 -- events, and the place behind their lines
 pub record Lines : Type 0 where
@@ -64,12 +61,15 @@ pub record Lines : Type 0 where
 abbrev pub before : List ℕ → Lines → Lines
 before es l = record { events = es ++ l.events; at = l.at }
 
+-- none at a place, or its line and what follows that
+abbrev pub lines_with : ℕ → Option EventLine → (ℕ → Lines) → Lines
+lines_with at None behind = record { events = []; at = at }
+lines_with at (Some line) behind = before (line.event ∷ []) (behind (at + line.bytes))
+
 -- the lines from a place on, up to the first that is none, and at most so many
 unfoldable pub lines_from : ℕ → List ℕ → ℕ → Lines
 lines_from zero part at = record { events = []; at = at }
-lines_from (suc most) part at =
-    cond (eqb (line_from part at).bytes 0) (record { events = []; at = at })
-    (before ((line_from part at).event ∷ []) (lines_from most part (at + (line_from part at).bytes)))
+lines_from (suc most) part at = lines_with at (line_from part at) (lines_from most part)
 
 abbrev pub counted : Lines → EventLines
 counted l = record { count = length l.events; at = l.at }
@@ -90,4 +90,4 @@ pub record LinesRead (part : List ℕ) (from : ℕ) (events : List ℕ) (r : Eve
 abbrev pub NoneLeft : List ℕ → List ℕ → EventLines → Type 0
 NoneLeft part events r =
     r.count < length events → r.at + 3 < length part
-    → (line_in (get_or part r.at 0) (get_or part (r.at + 1) 0) (get_or part (r.at + 2) 0) (get_or part (r.at + 3) 0)).bytes ≡ 0
+    → line_in (get_or part r.at 0) (get_or part (r.at + 1) 0) (get_or part (r.at + 2) 0) (get_or part (r.at + 3) 0) ≡ None

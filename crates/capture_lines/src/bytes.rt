@@ -1,49 +1,31 @@
 // The bytes of a line, one after the other.
 ghost use Rattle.std.specs.Prelude.{◌≡◌, drop};
-ghost use Rattle.text.specs.Decimal.{is_digit};
-ghost use Rattle.capture_lines.specs.SoFar.{is_pins, on_word, on_digit, takes_digit, on_number, with_byte, scanned_from, PartlyScanned};
+ghost use Rattle.capture_lines.specs.SoFar.{on_word, on_digit, takes_digit, on_number, with_byte, scanned_from, PartlyScanned};
 
 use crate::{LineSoFar, Scanned};
 
-pub const NEWLINE: u8 = 10;
+pub const NEWLINE: u8 = b'\n';
 
 // What the first line begins with.
 const WORD: [u8; 5] = *b"pins\t";
-
-pub fn is_digit(byte: u8) -> bool
-    ensures { result ≡ is_digit byte }
-{
-    (48 <= byte) & (byte <= 57)
-}
-
-fn is_pins(byte: u8) -> bool
-    ensures { result ≡ is_pins byte }
-{
-    (48 <= byte) & (byte <= 51)
-}
 
 // The first line with k bytes: the next of the word, and then the pins.
 fn on_word(k: u8, byte: u8) -> LineSoFar
     ensures { result ≡ on_word k byte }
 {
-    if k < 5 {
-        if byte == WORD[k as usize] {
-            return LineSoFar::First(k + 1);
-        }
-        return LineSoFar::BadFirst;
+    match WORD.get(usize::from(k)) {
+        Some(next) if byte == *next => LineSoFar::First(k + 1),
+        None if matches!(byte, b'0'..=b'3') => LineSoFar::Pins(byte - b'0'),
+        _ => LineSoFar::BadFirst,
     }
-    if is_pins(byte) {
-        return LineSoFar::Pins(byte - 48);
-    }
-    LineSoFar::BadFirst
 }
 
 // The first digit of an event.
 fn on_digit(byte: u8) -> LineSoFar
     ensures { result ≡ on_digit byte }
 {
-    if is_digit(byte) {
-        return LineSoFar::Number((byte as u16) - 48);
+    if byte.is_ascii_digit() {
+        return LineSoFar::Number(u16::from(byte - b'0'));
     }
     LineSoFar::Bad
 }
@@ -59,13 +41,14 @@ fn takes_digit(n: u16) -> bool
 fn on_number(n: u16, byte: u8) -> LineSoFar
     ensures { result ≡ on_number n byte }
 {
-    if takes_digit(n) & is_digit(byte) {
-        return LineSoFar::Number(n * 10 + ((byte as u16) - 48));
+    if takes_digit(n) && byte.is_ascii_digit() {
+        return LineSoFar::Number(n * 10 + u16::from(byte - b'0'));
     }
     LineSoFar::Bad
 }
 
 // The line with one byte more, which is no newline.
+#[tactic(auto, unfolding(crate::specs::SoFar::with_byte))]
 fn with_byte(line: LineSoFar, byte: u8) -> LineSoFar
     ensures { result ≡ with_byte line byte }
 {
@@ -84,16 +67,17 @@ pub fn scan_bytes(line: LineSoFar, part: &[u8], from: usize) -> Scanned
     ensures { result ≡ scanned_from from (drop from part.now) line }
 {
     let mut read = line;
-    let mut at = from;
-    while at < part.len() {
+    for at in from..part.len() {
         let byte = part[at];
         if byte == NEWLINE {
             return Scanned { line: read, at };
         }
         read = with_byte(read, byte);
-        at += 1;
     }
-    Scanned { line: read, at }
+    Scanned {
+        line: read,
+        at: from.max(part.len()),
+    }
 }
 
 // The digits behind those of a number, as far as they may follow: what is left to scan comes to the same.
@@ -101,12 +85,10 @@ fn more_digits(number: u16, part: &[u8], from: usize) -> Scanned
     ensures { PartlyScanned part.now from (LineSoFar.Number number) result }
 {
     let mut n = number;
-    let mut at = from;
-    while at < part.len() {
+    for at in from..part.len() {
         let byte = part[at];
-        if takes_digit(n) & is_digit(byte) {
-            n = n * 10 + ((byte as u16) - 48);
-            at += 1;
+        if takes_digit(n) && byte.is_ascii_digit() {
+            n = n * 10 + u16::from(byte - b'0');
         } else {
             return Scanned {
                 line: LineSoFar::Number(n),
@@ -116,7 +98,7 @@ fn more_digits(number: u16, part: &[u8], from: usize) -> Scanned
     }
     Scanned {
         line: LineSoFar::Number(n),
-        at,
+        at: from.max(part.len()),
     }
 }
 
@@ -124,17 +106,10 @@ fn more_digits(number: u16, part: &[u8], from: usize) -> Scanned
 pub fn digits(line: LineSoFar, part: &[u8], from: usize) -> Scanned
     ensures { PartlyScanned part.now from line result }
 {
-    let LineSoFar::Empty = line else {
-        return Scanned { line, at: from };
-    };
-    if from < part.len() {
-        let byte = part[from];
-        if is_digit(byte) {
-            return more_digits((byte as u16) - 48, part, from + 1);
+    match line {
+        LineSoFar::Empty if from < part.len() && part[from].is_ascii_digit() => {
+            more_digits(u16::from(part[from] - b'0'), part, from + 1)
         }
-    }
-    Scanned {
-        line: LineSoFar::Empty,
-        at: from,
+        _ => Scanned { line, at: from },
     }
 }

@@ -38,22 +38,14 @@ pub fn scan(line: LineSoFar, part: &[u8], from: usize) -> Scanned
     ensures { result ≡ scanned_from from (drop from part.now) line }
 {
     let begun = bytes::digits(line, part, from);
-    let read = begun.line;
-    bytes::scan_bytes(read, part, begun.at)
+    bytes::scan_bytes(begun.line, part, begun.at)
 }
 
 // Whether the capture is refused at this line or at one before it: then no later byte changes anything.
 pub fn is_refused(line: LineSoFar) -> bool
     ensures { result ≡ is_refused line }
 {
-    match line {
-        LineSoFar::First(_) => false,
-        LineSoFar::Pins(_) => false,
-        LineSoFar::Empty => false,
-        LineSoFar::Number(_) => false,
-        LineSoFar::BadFirst => true,
-        LineSoFar::Bad => true,
-    }
+    matches!(line, LineSoFar::BadFirst | LineSoFar::Bad)
 }
 
 // How many event lines were read, and the place behind them.
@@ -67,10 +59,7 @@ pub struct EventLines {
 pub fn end_of_fours(len: usize) -> usize
     ensures { result ≡ len - 3 }
 {
-    if len < 4 {
-        return 0;
-    }
-    len - 3
+    len.saturating_sub(3)
 }
 
 // Whole event lines from a place on, as many as `events` has room for, up to the first that is bad or that the end of the part is too near to: four
@@ -82,16 +71,19 @@ pub fn event_lines(part: &[u8], from: usize, events: &mut [u16]) -> EventLines
     ensures events_after { events.new ≡ over events.old (lines_from (length events.old) part.now from) }
 {
     let mut at = from;
-    let mut count = 0;
     let end = end_of_fours(part.len());
-    while at < end && count < events.len() {
-        let line = event::line_in(part[at], part[at + 1], part[at + 2], part[at + 3]);
-        if line.bytes == 0 {
+    for count in 0..events.len() {
+        if end <= at {
             return EventLines { count, at };
         }
+        let Some(line) = event::line_in(part[at], part[at + 1], part[at + 2], part[at + 3]) else {
+            return EventLines { count, at };
+        };
         events[count] = line.event;
         at += line.bytes;
-        count += 1;
     }
-    EventLines { count, at }
+    EventLines {
+        count: events.len(),
+        at,
+    }
 }
