@@ -8,7 +8,7 @@ use native.Mathlib.Nat.{le_of_suc-le-suc, not-suc-le-zero}
 use native.Mathlib.Omega.{arith}
 use lib.ListN.{get_or, length, length-map}
 use Rattle.registers.specs.State.{State}
-use Rattle.engine.specs.declared.answer.Answer.TheVariants.{Nothing}
+use Rattle.engine.specs.Answer.{Nothing}
 use Rattle.engine.specs.Event.{event_of}
 use Rattle.engine.specs.Step.{After, nothing_stored, applied, accepted, refusal_of, step_of}
 use Rattle.chip.specs.LastWriter.{before}

@@ -13,8 +13,7 @@ use Rattle.commands.specs.declared.answer.CommandAnswer.{CommandAnswer}
 use Rattle.commands.specs.Command.{answer_to}
 use Rattle.phases.specs.Changes.{read_byte}
 use Rattle.phases.specs.Phases.{is_reading}
-use Rattle.engine.specs.declared.answer.Answer.{Answer}
-use Rattle.engine.specs.declared.answer.Answer.TheVariants.{Refused, Nothing, NotAcknowledged, Command, Read}
+use Rattle.engine.specs.Answer.{Answer, Refused, Nothing, NotAcknowledged, Command, Read}
 use Rattle.engine.specs.declared.event.Event.{Event}
 use Rattle.engine.specs.Event.{event_of, is_acknowledged}
 use Rattle.engine.specs.Step.{After, on_byte, applied, accepted, step_of}

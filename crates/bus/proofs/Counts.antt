@@ -5,7 +5,7 @@ use mathlib.Core.Path.{◌≡◌, refl}
 use Prim.Native.Nat.{ℕ}
 use borrow.Author.Tests.{eq-eqb}
 use Rattle.registers.proofs.Within.{both_left, both_right}
-use Rattle.engine.specs.declared.answer.Answer.TheVariants.{Nothing}
+use Rattle.engine.specs.Answer.{Nothing}
 use Rattle.engine.specs.Event.{event_of}
 use Rattle.engine.specs.Step.{nothing_stored, applied}
 use Rattle.engine.proofs.Pixels.{true-refusal, applied-true}

@@ -14,7 +14,7 @@ use Rattle.registers.specs.State.{places}
 use Rattle.registers.proofs.Below.{false-true}
 use Rattle.registers.proofs.Within.{both_left, both_right}
 use Rattle.phases.specs.Phases.{rs_of, is_addressed, phase_after_address, phase_after_control, phase_after_last_read}
-use Rattle.engine.specs.declared.answer.Answer.TheVariants.{Nothing}
+use Rattle.engine.specs.Answer.{Nothing}
 use Rattle.engine.specs.declared.event.Event.{Event}
 use Rattle.engine.specs.declared.event.Event.TheVariants.{Byte, Start, Stop, ReadAcknowledged, ReadNotAcknowledged, Reset, Sensor, Unlisted}
 use Rattle.engine.specs.Event.{event_of}

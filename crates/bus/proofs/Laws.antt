@@ -11,7 +11,7 @@ use Rattle.commands.specs.declared.answer.CommandAnswer.{CommandAnswer}
 use Rattle.commands.specs.Command.{answer_to}
 use Rattle.phases.specs.Changes.{read_byte, sensed}
 use Rattle.phases.specs.Phases.{is_reading}
-use Rattle.engine.specs.declared.answer.Answer.TheVariants.{Refused, Nothing, NotAcknowledged, Command, Read}
+use Rattle.engine.specs.Answer.{Refused, Nothing, NotAcknowledged, Command, Read}
 use Rattle.engine.specs.Event.{is_acknowledged}
 use Rattle.engine.specs.Step.{After, step_of}
 use Rattle.chip.specs.When.{ListedEvent}

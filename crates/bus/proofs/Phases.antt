@@ -11,7 +11,7 @@ use Rattle.registers.specs.State.{State}
 use Rattle.registers.proofs.Below.{false-true}
 use Rattle.phases.specs.Changes.{controlled, pulsed, sensed}
 use Rattle.phases.specs.Phases.{is_addressed, phase_after_address, phase_after_control, phase_after_last_read}
-use Rattle.engine.specs.declared.answer.Answer.TheVariants.{Nothing}
+use Rattle.engine.specs.Answer.{Nothing}
 use Rattle.engine.specs.declared.event.Event.{Event}
 use Rattle.engine.specs.declared.event.Event.TheVariants.{Byte, Start, Stop, ReadAcknowledged, ReadNotAcknowledged, Reset, Sensor, Unlisted}
 use Rattle.engine.specs.Event.{event_of}

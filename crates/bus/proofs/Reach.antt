@@ -12,7 +12,7 @@ use Rattle.registers.specs.declared.Phase.TheVariants.{Idle, AddressAwaited, Ign
 use Rattle.registers.proofs.Below.{false-true}
 use Rattle.registers.proofs.Within.{allowed-pins}
 use Rattle.phases.specs.Changes.{sensed}
-use Rattle.engine.specs.declared.answer.Answer.TheVariants.{Nothing}
+use Rattle.engine.specs.Answer.{Nothing}
 use Rattle.engine.specs.declared.event.Event.{Event}
 use Rattle.engine.specs.Event.{event_of}
 use Rattle.engine.specs.Step.{After, nothing_stored, on_byte, applied}

@@ -15,7 +15,7 @@ use Rattle.registers.specs.Refusals.{refuse, ◌then◌, is_listed_event}
 use Rattle.registers.specs.State.{places}
 use Rattle.registers.proofs.Below.{false-true, true-false, or-true}
 use Rattle.registers.proofs.Within.{both_left, both_right}
-use Rattle.engine.specs.declared.answer.Answer.TheVariants.{Refused}
+use Rattle.engine.specs.Answer.{Refused}
 use Rattle.engine.specs.Step.{refusal_of}
 use Rattle.pixel_counts.specs.Counts.{counts_of}
 use Rattle.pixel_counts.proofs.Laws.{counts-allowed}

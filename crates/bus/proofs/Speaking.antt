@@ -13,8 +13,7 @@ use Rattle.registers.specs.State.{State}
 use Rattle.registers.proofs.Below.{false-true, true-false}
 use Rattle.phases.specs.Changes.{read_byte}
 use Rattle.phases.specs.Phases.{is_addressed, is_reading}
-use Rattle.engine.specs.declared.answer.Answer.{Answer}
-use Rattle.engine.specs.declared.answer.Answer.TheVariants.{Refused, Nothing, Acknowledged, NotAcknowledged, Command, Read}
+use Rattle.engine.specs.Answer.{Answer, Refused, Nothing, Acknowledged, NotAcknowledged, Command, Read}
 use Rattle.engine.specs.declared.event.Event.{Event}
 use Rattle.engine.specs.declared.event.Event.TheVariants.{Byte, Start, Stop, ReadAcknowledged, ReadNotAcknowledged, Reset, Sensor, Unlisted}
 use Rattle.engine.specs.Event.{event_of, is_acknowledged}

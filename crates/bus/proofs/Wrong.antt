@@ -18,8 +18,7 @@ use Rattle.commands.specs.Command.{answer_to, command_number}
 use Rattle.display.specs.Display.{stored_of, place_of, column_of}
 use Rattle.phases.specs.Changes.{read_byte, pulsed, sensed}
 use Rattle.phases.specs.Phases.{is_addressed}
-use Rattle.engine.specs.declared.answer.Answer.{Answer}
-use Rattle.engine.specs.declared.answer.Answer.TheVariants.{Nothing, Acknowledged, Read}
+use Rattle.engine.specs.Answer.{Answer, Nothing, Acknowledged, Read}
 use Rattle.engine.specs.Event.{event_of, number_of}
 use Rattle.engine.specs.Step.{acknowledge, on_byte, applied}
 use Rattle.chip.specs.When.{ListedEvent}

@@ -2,7 +2,7 @@
 use Rattle.std.specs.Prelude.{Bool, false, cond, not, ◌&&◌, ◌||◌, List, [], ◌∷◌, map, ℕ, zero, suc, eqb, get_or}
 use Rattle.registers.specs.Record.{reset_chip}
 use Rattle.registers.specs.State.{State}
-use Rattle.engine.specs.declared.answer.Answer.{Answer}
+use Rattle.engine.specs.Answer.{Answer}
 use Rattle.bus.specs.Bus.{Device, device, Bus, alone, has_pins}
 use Rattle.bus.specs.Refusals.{is_sensor_reading, bus_refusal}
 use Rattle.bus.specs.Step.{bus_step_of}

@@ -6,7 +6,7 @@ use Prim.Native.Nat.{ℕ}
 use native.Mathlib.Omega.{arith}
 use Rattle.registers.specs.declared.Chip.{Chip}
 use Rattle.registers.proofs.Below.{and-true, false-true}
-use Rattle.engine.specs.declared.answer.Answer.{Answer}
+use Rattle.engine.specs.Answer.{Answer}
 use Rattle.engine.specs.Event.{number_of}
 use Rattle.bus.specs.Bus.{bus}
 use Rattle.bus.specs.Step.{bus_after, bus_step_of}

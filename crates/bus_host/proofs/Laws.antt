@@ -9,7 +9,7 @@ use borrow.Author.Tests.{ne_eqb, lt-leb}
 use lib.Dec.{eqb, ltb}
 use Rattle.registers.specs.Refusals.{refuse, ◌then◌, is_listed_event}
 use Rattle.registers.proofs.Below.{false-true}
-use Rattle.engine.specs.declared.answer.Answer.{Answer}
+use Rattle.engine.specs.Answer.{Answer}
 use Rattle.engine.specs.Event.{number_of, is_acknowledged}
 use Rattle.engine.proofs.Numbers.{NoRefusal, no-refusal-number, same_answer}
 use Rattle.bus.specs.Answers.{Acknowledges}

@@ -7,8 +7,7 @@ use borrow.Author.Tests.{ne_eqb, lt-leb}
 use Rattle.commands.specs.declared.answer.CommandAnswer.{CommandAnswer}
 use Rattle.commands.specs.declared.answer.CommandAnswer.TheVariants.{Taken, Unknown, OutOfRange}
 use Rattle.commands.specs.Command.{command_number}
-use Rattle.engine.specs.declared.answer.Answer.{Answer}
-use Rattle.engine.specs.declared.answer.Answer.TheVariants.{Refused, Nothing, Acknowledged, NotAcknowledged, Command, Read}
+use Rattle.engine.specs.Answer.{Answer, Refused, Nothing, Acknowledged, NotAcknowledged, Command, Read}
 use Rattle.engine.specs.Event.{number_of, is_acknowledged}
 use Rattle.engine.proofs.Numbers.{NoRefusal, not_refused}
 use Rattle.bus.specs.Bus.{Bus}

@@ -5,8 +5,7 @@ use mathlib.Core.Path.{◌≡◌, refl, sym, ap, ◌∙◌}
 use Prim.Native.Nat.{ℕ, zero, suc, ◌+◌}
 use Rattle.registers.specs.State.{State}
 use Rattle.commands.specs.declared.answer.CommandAnswer.TheVariants.{Unknown, OutOfRange}
-use Rattle.engine.specs.declared.answer.Answer.{Answer}
-use Rattle.engine.specs.declared.answer.Answer.TheVariants.{Refused, Nothing}
+use Rattle.engine.specs.Answer.{Answer, Refused, Nothing}
 use Rattle.engine.specs.Event.{event_of}
 use Rattle.engine.specs.Loop.{answer_of, commanded_by, command_answered}
 use Rattle.engine.specs.PastEntry.{step_past_entry, run_past_entry, tally_past_entry}

@@ -1,8 +1,7 @@
 -- A chip's part in an event of its bus, as the code asks for it: a sensor reading that names other pins passes by, and the rest is the step of a chip
 -- alone past its entry: the bus has tested 1 and 2 for all its chips. Where it accepts the event, this is what the bus's definition says.
 use Rattle.std.specs.Prelude.{cond, List, [], ◌∷◌, ℕ}
-use Rattle.engine.specs.declared.answer.Answer.{Answer}
-use Rattle.engine.specs.declared.answer.Answer.TheVariants.{Nothing}
+use Rattle.engine.specs.Answer.{Answer, Nothing}
 use Rattle.engine.specs.Event.{event_of}
 use Rattle.engine.specs.PastEntry.{step_past_entry}
 use Rattle.engine.specs.Step.{After}

@@ -8,8 +8,7 @@ pub use Rattle.commands.specs.declared.answer.CommandAnswer.TheVariants.{Taken, 
 pub use Rattle.registers.specs.Places.{H, DO, PD, «V», D, E, MX, MY, PS, X, Y, DP, SM, GR, GS0, GS1, GS2, GS3, DOF, DM, EC, OC}
 pub use Rattle.registers.specs.Record.{values, of_values, put, blank, reset_registers, reset_chip, in_phase, with_registers, with_pixels, count_for}
 pub use Rattle.registers.specs.State.{State, state, places}
-pub use Rattle.engine.specs.declared.answer.Answer.{Answer}
-pub use Rattle.engine.specs.declared.answer.Answer.TheVariants.{Refused, Nothing, Acknowledged, NotAcknowledged, Command, Read}
+pub use Rattle.engine.specs.Answer.{Answer, Refused, Nothing, Acknowledged, NotAcknowledged, Command, Read}
 pub use Rattle.engine.specs.Event.{number_of as answerNumber}
 pub use Rattle.pixel_counts.specs.Counts.{TrueCounts}
 pub use Rattle.engine.specs.Step.{After, Fit}

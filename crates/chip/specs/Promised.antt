@@ -1,6 +1,5 @@
 -- The chip's behaviour, by name. The definitions stand in `engine`, `commands`, `display`, `phases` and `pixel_counts`: whoever does not list those crates can't open them.
-pub use Rattle.engine.specs.declared.answer.Answer.{Answer}
-pub use Rattle.engine.specs.declared.answer.Answer.TheVariants.{Refused, Nothing, Acknowledged, NotAcknowledged, Command, Read}
+pub use Rattle.engine.specs.Answer.{Answer, Refused, Nothing, Acknowledged, NotAcknowledged, Command, Read}
 pub use Rattle.commands.specs.declared.answer.CommandAnswer.{CommandAnswer}
 pub use Rattle.commands.specs.declared.answer.CommandAnswer.TheVariants.{Taken, Unknown, OutOfRange}
 pub use Rattle.engine.specs.Event.{is_acknowledged, counts_as}

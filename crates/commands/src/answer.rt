@@ -7,7 +7,7 @@ use instruction_table::table::ROWS;
 
 // Taken: it is a byte of a row of the present page, and its numbers are in range. Unknown: it is of no such row. Out of range: its page, Y or X is
 // one that there is not, and the register stays as it is.
-#[derive(Clone, Copy)]
+#[derive(Clone, Copy, Debug, PartialEq, Eq, Hash)]
 pub enum CommandAnswer {
     Taken,
     Unknown,
@@ -29,21 +29,14 @@ impl CommandAnswer {
     pub fn is_taken(self) -> bool
         ensures { result ≡ is_taken self }
     {
-        match self {
-            CommandAnswer::Taken => true,
-            CommandAnswer::Unknown => false,
-            CommandAnswer::OutOfRange => false,
-        }
+        matches!(self, CommandAnswer::Taken)
     }
 
     // 1 where it is this one, 0 where it is another.
     pub fn counts(self, one: CommandAnswer) -> usize
         ensures { result ≡ counts one self }
     {
-        if self.number() == one.number() {
-            return 1;
-        }
-        0
+        usize::from(self == one)
     }
 }
 
@@ -67,7 +60,8 @@ pub fn of_row(row: usize, byte: u8) -> CommandAnswer
         return CommandAnswer::Unknown;
     }
     if in_range(row, byte) {
-        return CommandAnswer::Taken;
+        CommandAnswer::Taken
+    } else {
+        CommandAnswer::OutOfRange
     }
-    CommandAnswer::OutOfRange
 }

@@ -18,13 +18,12 @@ use Rattle.commands.specs.declared.answer.CommandAnswer.TheVariants.{Taken, Unkn
 use Rattle.phases.specs.declared.interface.Interface.{Interface}
 use Rattle.phases.specs.Interface.{whole}
 use Rattle.phases.specs.Phases.{awaits_content}
-use Rattle.engine.specs.declared.answer.Answer.{Answer}
-use Rattle.engine.specs.declared.answer.Answer.TheVariants.{Refused, Nothing, Acknowledged, NotAcknowledged, Command, Read}
+use Rattle.engine.specs.Answer.{Answer, Refused, Nothing, Acknowledged, NotAcknowledged, Command, Read}
 use Rattle.engine.specs.declared.event.Event.{Event}
 use Rattle.engine.specs.declared.event.Event.TheVariants.{Byte, Start, Stop, ReadAcknowledged, ReadNotAcknowledged, Reset, Sensor, Unlisted}
 use Rattle.engine.specs.Event.{event_of, is_byte, counts_as}
 use Rattle.engine.specs.Loop.{registers_upon, answer_of, commanded_by, command_answered}
-use Rattle.engine.specs.PastEntry.{refusal_past_entry, step_past_entry, run_past_entry, tally_past_entry, entry_unless, run_from_entry, tally_from_entry, step_from_entry}
+use Rattle.engine.specs.PastEntry.{answer_unless, refusal_past_entry, step_past_entry, run_past_entry, tally_past_entry, entry_unless, run_from_entry, tally_from_entry, step_from_entry}
 use Rattle.engine.specs.Run.{Outcome, outcome, run_of, unless_stopped, count_unless, tally}
 use Rattle.engine.specs.Step.{After, acknowledge, content_of, on_byte, applied, accepted, counted}
 use Rattle.engine.specs.Step.{entry_refusal, refusal_of, unless_refused, step_of}
@@ -150,6 +149,20 @@ pub from-entry :
 from-entry es s o u r eo eu er =
     (eo ∙ sym (tested-at-entry es s), (eu ∙ sym (tallied-from-entry es s Unknown), er ∙ sym (tallied-from-entry es s OutOfRange)))
 
+-- the code found k at the entry: it refuses, or the events pass
+module _ (es : List ℕ) (s : State) (k : ℕ) (is : k ≡ entry_refusal s) where
+  pub run-stops : (k ≡ 0 → ⊥) → (outcome 0 k s ≡ run_of es s) × ((0 ≡ tally Unknown es s) × (0 ≡ tally OutOfRange es s))
+  run-stops n =
+      let stops = entry-stops _ k s (run_past_entry 0 es s) (tally_past_entry Unknown es s) (tally_past_entry OutOfRange es s) is n in
+      from-entry es s _ _ _ stops.0 stops.1.0 stops.1.1
+
+  pub run-passes :
+      (o : Outcome) (u r : ℕ) → k ≡ 0 → o ≡ run_past_entry 0 es s → u ≡ tally_past_entry Unknown es s → r ≡ tally_past_entry OutOfRange es s
+      → (o ≡ run_of es s) × ((u ≡ tally Unknown es s) × (r ≡ tally OutOfRange es s))
+  run-passes o u r z eo eu er =
+      let passes = entry-passes _ k s o _ u _ r _ is z eo eu er in
+      from-entry es s o u r passes.0 passes.1.0 passes.1.1
+
 -- ---- a run over one event: the entry refuses first, then the event
 
 -- what it comes to, and what its answer counts
@@ -187,6 +200,21 @@ module _ (tested : Bool) (e : ℕ) (s s' : State) (n k : ℕ) (is : outcome n k 
       rw eb
       (one-accepted (entry_unless tested s) (refusal_past_entry e s) (accepted e s) s s' n k u o (answer_of (event_of e) s.chip) is z eu eo (answer-alone e s))
 
+  -- the code's answer: why it was refused, or what the event came to
+  pub single-told :
+      (u o : ℕ) (a : Answer) → u ≡ tally_from_entry tested Unknown (e ∷ []) s → o ≡ tally_from_entry tested OutOfRange (e ∷ []) s
+      → a ≡ answer_unless k (commanded_by (command_answered u o) (answer_of (event_of e) s.chip)) → record { answer = a; state = s' } ≡ step_from_entry tested e s
+  single-told u o a eu eo ea = go k refl
+    where
+      known : (j : ℕ) → k ≡ j → a ≡ answer_unless j (commanded_by (command_answered u o) (answer_of (event_of e) s.chip))
+      known j z = ea ∙ ap (λ (i : ℕ). answer_unless i (commanded_by (command_answered u o) (answer_of (event_of e) s.chip))) z
+
+      go : (j : ℕ) → k ≡ j → record { answer = a; state = s' } ≡ step_from_entry tested e s
+      go zero z = single-accepted u o a z eu eo (known zero z)
+      go (suc j) z =
+          ap (λ (x : Answer). record { answer = x; state = s' }) (known (suc j) z ∙ ap Refused (sym z))
+          ∙ single-refused (λ (q : k ≡ 0). suc-ne-zero j (sym z ∙ q))
+
 -- the step itself, with the entry's tests or without
 pub whole-step : (e : ℕ) (s : State) → step_from_entry false e s ≡ step_of e s
 unfolding step_of refusal_of refusal_past_entry
@@ -195,3 +223,18 @@ whole-step e s = refl
 pub step_past : (e : ℕ) (s : State) → step_from_entry true e s ≡ step_past_entry e s
 unfolding step_past_entry
 step_past e s = refl
+
+-- a run over the event, with its answer, is the step
+pub told-whole :
+    (e : ℕ) (s s' : State) (n k u o : ℕ) (a : Answer) → outcome n k s' ≡ run_of (e ∷ []) s → u ≡ tally Unknown (e ∷ []) s → o ≡ tally OutOfRange (e ∷ []) s
+    → a ≡ answer_unless k (commanded_by (command_answered u o) (answer_of (event_of e) s.chip)) → record { answer = a; state = s' } ≡ step_of e s
+told-whole e s s' n k u o a is eu eo ea =
+    single-told false e s s' n k (is ∙ tested-at-entry (e ∷ []) s) u o a (eu ∙ tallied-from-entry (e ∷ []) s Unknown)
+    (eo ∙ tallied-from-entry (e ∷ []) s OutOfRange) ea
+    ∙ whole-step e s
+
+pub told-past :
+    (e : ℕ) (s s' : State) (n k u o : ℕ) (a : Answer) → outcome n k s' ≡ run_past_entry 0 (e ∷ []) s → u ≡ tally_past_entry Unknown (e ∷ []) s
+    → o ≡ tally_past_entry OutOfRange (e ∷ []) s → a ≡ answer_unless k (commanded_by (command_answered u o) (answer_of (event_of e) s.chip))
+    → record { answer = a; state = s' } ≡ step_past_entry e s
+told-past e s s' n k u o a is eu eo ea = single-told true e s s' n k is u o a eu eo ea ∙ step_past e s

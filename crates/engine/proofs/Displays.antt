@@ -22,7 +22,7 @@ use Rattle.display_bytes.specs.Stretch.{Stretched, stretched, taken, stretch_fro
 use Rattle.phases.specs.declared.interface.Interface.{Interface}
 use Rattle.phases.specs.Interface.{whole, turned}
 use Rattle.phases.specs.Phases.{is_endless, phase_after_content}
-use Rattle.engine.specs.declared.answer.Answer.TheVariants.{Acknowledged}
+use Rattle.engine.specs.Answer.{Acknowledged}
 use Rattle.engine.specs.Loop.{content_end}
 use Rattle.engine.specs.PastEntry.{refusal_past_entry, run_past_entry, tally_past_entry}
 use Rattle.engine.specs.Step.{after, on_byte, applied, accepted, counted, event_refusal, pixel_refusal}

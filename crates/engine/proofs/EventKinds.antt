@@ -19,7 +19,7 @@ use Rattle.commands.specs.Command.{command_of, answer_to, is_taken, counts}
 use Rattle.phases.specs.declared.interface.Interface.{Interface}
 use Rattle.phases.specs.Interface.{whole, turned}
 use Rattle.phases.specs.Phases.{is_addressed, awaits_content, phase_after_content}
-use Rattle.engine.specs.declared.answer.Answer.TheVariants.{Command}
+use Rattle.engine.specs.Answer.{Command}
 use Rattle.engine.specs.declared.event.Event.{Event}
 use Rattle.engine.specs.declared.event.Event.TheVariants.{Byte, Start, Stop, ReadAcknowledged, ReadNotAcknowledged, Reset, Sensor, Unlisted}
 use Rattle.engine.specs.Event.{event_of, is_byte, counts_as}

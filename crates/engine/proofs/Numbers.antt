@@ -8,8 +8,7 @@ use lib.Dec.{eqb}
 use Rattle.commands.specs.declared.answer.CommandAnswer.{CommandAnswer}
 use Rattle.commands.specs.declared.answer.CommandAnswer.TheVariants.{Taken, Unknown, OutOfRange}
 use Rattle.commands.specs.Command.{command_number}
-use Rattle.engine.specs.declared.answer.Answer.{Answer}
-use Rattle.engine.specs.declared.answer.Answer.TheVariants.{Refused, Nothing, Acknowledged, NotAcknowledged, Command, Read}
+use Rattle.engine.specs.Answer.{Answer, Refused, Nothing, Acknowledged, NotAcknowledged, Command, Read}
 use Rattle.engine.specs.Event.{number_of}
 
 abbrev pub NoRefusal : Answer → Type 0

@@ -1,14 +1,19 @@
 -- What it means that an event, or the entry of a run, is not refused.
-use mathlib.Core.Path.{◌≡◌}
+use mathlib.Core.Path.{◌≡◌, refl}
 use mathlib.Core.Bool.{true, not, ◌||◌}
-use Prim.Native.Nat.{ℕ, ◌-◌, ◌^◌}
+use Prim.Native.Nat.{ℕ, zero, suc, ◌-◌, ◌^◌}
+use native.Mathlib.Omega.{arith}
 use borrow.Author.Tests.{eqb-true, eqb-false, eq-eqb, not-false}
 use lib.Dec.{eqb}
 use lib.ListN.{length}
+use Rattle.refusals.specs.declared.Refusal.{Refusal}
+use Rattle.refusals.specs.Numbers.{number}
+use Rattle.refusals.proofs.Positive.{positive}
 use Rattle.registers.specs.Refusals.{refuse, record_refusal, is_listed_event}
 use Rattle.registers.specs.State.{State, places}
 use Rattle.registers.proofs.Refusals.{then-zero, refuse-none, or-none}
-use Rattle.engine.specs.PastEntry.{refusal_past_entry}
+use Rattle.engine.specs.Answer.{Answer, Refused}
+use Rattle.engine.specs.PastEntry.{refusal_past_entry, answer_unless}
 use Rattle.engine.specs.Step.{entry_refusal, event_refusal, pixel_refusal, refusal_of, Fit}
 
 -- what none of the refusals leaves
@@ -53,3 +58,16 @@ accepts e s h =
       room = room-left e s first.1;
       pixels = second.1;
     }
+
+-- ---- a refusal of the code has a number, which is not 0
+
+pub number-refuses : (r : Refusal) → number r ≡ 0 → ⊥
+number-refuses r z = omega (arith, positive r, z)
+
+-- it is the answer
+pub refusal_told : (r : Refusal) (a : Answer) → Refused (number r) ≡ answer_unless (number r) a
+refusal_told r a = go (number r) (number-refuses r)
+  where
+    go : (k : ℕ) → (k ≡ 0 → ⊥) → Refused k ≡ answer_unless k a
+    go zero n = absurd (n refl)
+    go (suc k) n = refl

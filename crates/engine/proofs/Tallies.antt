@@ -5,8 +5,7 @@ use Prim.Native.Nat.{ℕ, zero, suc, ◌≤◌, zero-le}
 use Rattle.registers.specs.State.{State}
 use Rattle.commands.specs.declared.answer.CommandAnswer.{CommandAnswer}
 use Rattle.commands.proofs.Answers.{counts-once}
-use Rattle.engine.specs.declared.answer.Answer.{Answer}
-use Rattle.engine.specs.declared.answer.Answer.TheVariants.{Refused, Nothing, Acknowledged, NotAcknowledged, Command, Read}
+use Rattle.engine.specs.Answer.{Answer, Refused, Nothing, Acknowledged, NotAcknowledged, Command, Read}
 use Rattle.engine.specs.Event.{counts_as}
 use Rattle.engine.specs.Run.{tally}
 use Rattle.engine.specs.Step.{entry_refusal, refusal_of}

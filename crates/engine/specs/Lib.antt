@@ -1,3 +1,4 @@
+pub mod Answer
 pub mod Event
 pub mod Step
 pub mod Run

@@ -5,8 +5,7 @@ use Rattle.std.specs.Prelude.{Bool, cond, List, [], ◌∷◌, ◌⊎◌, ◌≡
 use Rattle.registers.specs.Refusals.{◌then◌}
 use Rattle.registers.specs.State.{State}
 use Rattle.commands.specs.declared.answer.CommandAnswer.{CommandAnswer}
-use Rattle.engine.specs.declared.answer.Answer.{Answer}
-use Rattle.engine.specs.declared.answer.Answer.TheVariants.{Refused, Nothing}
+use Rattle.engine.specs.Answer.{Answer, Refused, Nothing}
 use Rattle.engine.specs.Event.{counts_as}
 use Rattle.engine.specs.Run.{Outcome, outcome, unless_stopped, count_unless}
 use Rattle.engine.specs.Step.{After, entry_refusal, event_refusal, pixel_refusal, accepted, unless_refused}

@@ -13,8 +13,7 @@ use Rattle.phases.specs.Changes.{controlled, read_byte, pulsed, sensed}
 use Rattle.phases.specs.Phases.{is_addressed, phase_after_address, phase_after_last_read}
 use Rattle.engine.specs.declared.event.Event.{Event}
 use Rattle.engine.specs.declared.event.Event.TheVariants.{Byte, Start, Stop, ReadAcknowledged, ReadNotAcknowledged, Reset, Sensor, Unlisted}
-use Rattle.engine.specs.declared.answer.Answer.{Answer}
-use Rattle.engine.specs.declared.answer.Answer.TheVariants.{Refused, Nothing, Acknowledged, NotAcknowledged, Command, Read}
+use Rattle.engine.specs.Answer.{Answer, Refused, Nothing, Acknowledged, NotAcknowledged, Command, Read}
 use Rattle.engine.specs.Event.{event_of}
 
 -- ---- refusals, in their order; 0 is none

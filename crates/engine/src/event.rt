@@ -2,7 +2,7 @@
 ghost use Rattle.std.specs.Prelude.{◌≡◌};
 ghost use Rattle.engine.specs.Event.{event_of};
 
-#[derive(Clone, Copy)]
+#[derive(Clone, Copy, Debug, PartialEq, Eq, Hash)]
 pub enum Event {
     Byte(u8),
     Start,
@@ -18,30 +18,15 @@ impl Event {
     pub fn of(number: u16) -> Self
         ensures { result ≡ event_of number }
     {
-        if number < 256 {
-            return Event::Byte(number as u8);
+        match number {
+            0..=255 => Event::Byte(number as u8),
+            256 => Event::Start,
+            257 => Event::Stop,
+            258 => Event::ReadAcknowledged,
+            259 => Event::ReadNotAcknowledged,
+            260 => Event::Reset,
+            512..=767 => Event::Sensor((number - 512) as u8),
+            _ => Event::Unlisted,
         }
-        if number == 256 {
-            return Event::Start;
-        }
-        if number == 257 {
-            return Event::Stop;
-        }
-        if number == 258 {
-            return Event::ReadAcknowledged;
-        }
-        if number == 259 {
-            return Event::ReadNotAcknowledged;
-        }
-        if number == 260 {
-            return Event::Reset;
-        }
-        if number < 512 {
-            return Event::Unlisted;
-        }
-        if number < 768 {
-            return Event::Sensor((number - 512) as u8);
-        }
-        Event::Unlisted
     }
 }

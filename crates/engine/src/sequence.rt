@@ -1,16 +1,18 @@
 // Events in order, for a run and for a single step. While they come, the registers, the bus interface and the pixels by value are held apart, and a
 // stretch of display bytes is taken at once. It alone calls the command rows, so that they are compiled into it.
 ghost use Rattle.std.specs.Prelude.{◌≡◌, ◌<◌};
+ghost use Rattle.refusals.specs.Numbers.{number_of};
 ghost use Rattle.registers.specs.State.{state};
 ghost use Rattle.commands.specs.declared.answer.CommandAnswer.TheVariants.{Unknown, OutOfRange};
 ghost use Rattle.engine.specs.Loop.{brings_content, content_end};
-ghost use Rattle.engine.specs.PastEntry.{run_past_entry, tally_past_entry, run_from_entry, tally_from_entry};
+ghost use Rattle.engine.specs.PastEntry.{run_past_entry, tally_past_entry};
 ghost use Rattle.engine.specs.Run.{outcome};
 
 use crate::event::Event;
 use crate::run::Ran;
 use commands::answer::CommandAnswer;
 use phases::interface::Interface;
+use refusals::Refusal;
 use registers::{Chip, Phase};
 
 fn brings_content(event: u16, phase: Phase) -> bool
@@ -32,8 +34,14 @@ fn content_end(phase: Phase, here: usize, end: usize) -> usize
 
 // Events in order up to the first that 3, 4 or 16 refuses; 1 and 2 are not tested. There is room in the count for the events up to `end`, which is
 // found once; the event behind them is refused.
-fn go_through(chip: Chip, count: u64, memory: &mut [u8], writers: &mut [u64], events: &[u16]) -> Ran
-    ensures count_after { outcome result.done result.refusal (state result.chip memory.new writers.new result.count)
+pub fn go_through(
+    chip: Chip,
+    count: u64,
+    memory: &mut [u8],
+    writers: &mut [u64],
+    events: &[u16],
+) -> Ran
+    ensures count_after { outcome result.done (number_of result.refusal) (state result.chip memory.new writers.new result.count)
         ≡ run_past_entry 0 events.now (state chip memory.old writers.old count) }
     ensures unknown_value { result.unknown ≡ tally_past_entry Unknown events.now (state chip memory.old writers.old count) }
     ensures out_of_range_value { result.out_of_range ≡ tally_past_entry OutOfRange events.now (state chip memory.old writers.old count) }
@@ -60,7 +68,7 @@ fn go_through(chip: Chip, count: u64, memory: &mut [u8], writers: &mut [u64], ev
                         done,
                         unknown,
                         out_of_range,
-                        refusal: 16,
+                        refusal: Some(Refusal::PixelCounts),
                         chip: before.whole(registers, pixels),
                         count: number,
                     };
@@ -85,7 +93,7 @@ fn go_through(chip: Chip, count: u64, memory: &mut [u8], writers: &mut [u64], ev
                     done,
                     unknown,
                     out_of_range,
-                    refusal: 3,
+                    refusal: Some(Refusal::UnlistedEvent),
                     chip: interface.whole(registers, pixels),
                     count: count + done as u64,
                 };
@@ -103,33 +111,4 @@ fn go_through(chip: Chip, count: u64, memory: &mut [u8], writers: &mut [u64], ev
         chip: interface.whole(registers, pixels),
         count: count + done as u64,
     }
-}
-
-// The same, with 1 and 2 tested at entry, even with no events, unless the caller has tested them. It alone goes through events, so that their loop is
-// compiled into it.
-pub fn perform(
-    tested: bool,
-    chip: Chip,
-    count: u64,
-    memory: &mut [u8],
-    writers: &mut [u64],
-    events: &[u16],
-) -> Ran
-    ensures count_after { outcome result.done result.refusal (state result.chip memory.new writers.new result.count)
-        ≡ run_from_entry tested events.now (state chip memory.old writers.old count) }
-    ensures unknown_value { result.unknown ≡ tally_from_entry tested Unknown events.now (state chip memory.old writers.old count) }
-    ensures out_of_range_value { result.out_of_range ≡ tally_from_entry tested OutOfRange events.now (state chip memory.old writers.old count) }
-{
-    let entry = crate::refusal::at_entry(tested, chip, memory.len(), writers.len());
-    if entry != 0 {
-        return Ran {
-            done: 0,
-            unknown: 0,
-            out_of_range: 0,
-            refusal: entry,
-            chip,
-            count,
-        };
-    }
-    go_through(chip, count, memory, writers, events)
 }

@@ -14,7 +14,7 @@ use Rattle.text.specs.Text.{bytes}
 use Rattle.print.specs.Printed.{decimal_of}
 use Rattle.display.specs.Display.{column_of, stored_of}
 use Rattle.commands.specs.declared.answer.CommandAnswer.TheVariants.{Taken, Unknown, OutOfRange}
-use Rattle.engine.specs.declared.answer.Answer.TheVariants.{Nothing, Acknowledged, NotAcknowledged, Command, Read}
+use Rattle.engine.specs.Answer.{Nothing, Acknowledged, NotAcknowledged, Command, Read}
 use Rattle.event_words.specs.Words.{display_words, command_words, byte_words, event_words, what_of, answer_words}
 
 -- the event e is said in these words to a chip in this phase, with these registers

@@ -3,7 +3,7 @@ use Rattle.std.specs.Prelude.{List, [], ◌∷◌, ℕ, ◌+◌}
 use Rattle.registers.specs.declared.Chip.{Chip}
 use Rattle.print.specs.Chosen.{line}
 use Rattle.print.specs.Printed.{decimal_of}
-use Rattle.engine.specs.declared.answer.Answer.{Answer}
+use Rattle.engine.specs.Answer.{Answer}
 use Rattle.event_words.specs.Words.{what_of, answer_words}
 
 -- c is the chip before the event, and n the count, which the event's number follows

@@ -9,7 +9,7 @@ use Rattle.registers.specs.declared.Chip.{Chip}
 use Rattle.registers.specs.Record.{reset_chip}
 use Rattle.registers.specs.Refusals.{◌then◌, lengths_refusal, record_refusal}
 use Rattle.registers.specs.State.{State, state, places}
-use Rattle.engine.specs.declared.answer.Answer.{Answer}
+use Rattle.engine.specs.Answer.{Answer}
 use Rattle.engine.specs.Event.{number_of}
 use Rattle.engine.specs.Step.{Fit, after, entry_refusal, refusal_of, accepted, unless_refused, step_of}
 use Rattle.engine.specs.PastEntry.{refusal_past_entry, step_past_entry, run_past_entry, tally_past_entry}

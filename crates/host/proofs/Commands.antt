@@ -12,8 +12,7 @@ use Rattle.registers.specs.declared.Phase.TheVariants.{Idle, AddressAwaited, Ign
 use Rattle.registers.specs.Record.{phase_rs}
 use Rattle.registers.specs.State.{State}
 use Rattle.registers.proofs.Below.{false-true}
-use Rattle.engine.specs.declared.answer.Answer.{Answer}
-use Rattle.engine.specs.declared.answer.Answer.TheVariants.{Refused, Nothing, Acknowledged, NotAcknowledged, Command, Read}
+use Rattle.engine.specs.Answer.{Answer, Refused, Nothing, Acknowledged, NotAcknowledged, Command, Read}
 use Rattle.engine.specs.Event.{number_of, counts_as}
 use Rattle.chip.specs.Promised.{CommandAnswer, Unknown, OutOfRange, command_number}
 use Rattle.engine.specs.Step.{After, refusal_of, step_of}

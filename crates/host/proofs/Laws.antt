@@ -23,7 +23,7 @@ use Rattle.engine.specs.Run.{run_from, run_of, tally}
 use Rattle.engine.proofs.Numbers.{command-numbers}
 use Rattle.engine.proofs.Tallies.{tally-refused}
 use Rattle.chip.specs.Promised.{CommandAnswer, Unknown, OutOfRange, CommandWhen, command_number}
-use Rattle.engine.specs.declared.answer.Answer.TheVariants.{Command}
+use Rattle.engine.specs.Answer.{Command}
 use Rattle.chip.proofs.Laws.{answered-exactly}
 use Rattle.chip.proofs.LastWriter.{counts-accepted}
 use Rattle.chip.proofs.RunOn.{run-counts}

@@ -8,7 +8,7 @@ use native.Mathlib.Omega.{arith}
 use lib.ListN.{get_or, length}
 use Rattle.registers.specs.Record.{phase_rs, of_values}
 use Rattle.registers.specs.State.{State}
-use Rattle.engine.specs.declared.answer.Answer.TheVariants.{Command}
+use Rattle.engine.specs.Answer.{Command}
 use Rattle.engine.specs.Event.{number_of}
 use Rattle.chip.specs.Promised.{CommandAnswer, stored_of}
 use Rattle.engine.specs.Step.{After, refusal_of, step_of}

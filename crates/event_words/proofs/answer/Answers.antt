@@ -1,4 +1,4 @@
-use Rattle.engine.specs.declared.answer.Answer.TheVariants.{Refused, Nothing, Acknowledged, NotAcknowledged, Command, Read}
+use Rattle.engine.specs.Answer.{Refused, Nothing, Acknowledged, NotAcknowledged, Command, Read}
 use Rattle.event_words.specs.Words.{answer_words}
 use Rattle.print.proofs.Writing.{wrote-known}
 use Rattle.event_words.proofs.answer.Goals as goal
