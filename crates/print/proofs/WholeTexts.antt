@@ -6,6 +6,9 @@ use native.Mathlib.Nat.{zero-add}
 use native.Mathlib.Omega.{arith}
 use borrow.Author.Tests.{le-leb, lt-leb}
 use lib.ListN.{length}
+use Rattle.refusals.specs.Numbers.{number}
+use Rattle.refusals.specs.declared.Refusal.{Refusal}
+use Rattle.refusals.proofs.Positive.{positive}
 use Rattle.print.specs.declared.Written.TheVariants.{Text, Short, Refused}
 use Rattle.print.specs.Printed.{top, Wrote, Output, output, whole_text}
 use Rattle.print.proofs.Writing.{after-fits}
@@ -41,3 +44,10 @@ whole-passed x k xs l e z w = w ∙ ap (λ (n : ℕ). whole_text n xs l) (sym z 
 module _ {none m r : List ℕ} {n j : ℕ} (xs l : List ℕ) (bound : length xs ≤ top) (measured : Wrote none 0 xs m n) where
   pub whole-printed : {left : List ℕ} → n ≤ length l → Wrote l 0 xs left j → r ≡ left → output (Text j) r ≡ whole_text 0 xs l
   whole-printed room w same = ap (λ (k : List ℕ). output (Text j) k) same ∙ whole-written xs l bound measured room w
+
+-- k is what the definition says of the refusal that the code found, or that none was found
+pub refused-text : (r : Refusal) {k : ℕ} (xs l : List ℕ) → number r ≡ k → output (Refused (number r)) l ≡ whole_text k xs l
+refused-text r xs l e = whole-refused (number r) _ _ _ e (λ z. omega (arith, positive r, z))
+
+pub unrefused-text : {k : ℕ} (xs l : List ℕ) {o : Output} → 0 ≡ k → o ≡ whole_text 0 xs l → o ≡ whole_text k xs l
+unrefused-text xs l e w = w ∙ ap (λ (n : ℕ). whole_text n xs l) e

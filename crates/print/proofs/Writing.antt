@@ -9,6 +9,7 @@ use borrow.Author.Tests.{le-leb, leb-true, leb-false}
 use lib.Dec.{leb}
 use lib.ListN.{length, get_or, take, drop, set, length-append, length-set, get_or-append}
 use lib.Seq.{sets, set_out, length-sets, sets-eq, take_at, take_all, length-take-le, get_or-append-add}
+use Rattle.std.proofs.lemmas.List.{take_more}
 use Rattle.text.specs.Text.{count_of}
 use Rattle.text.proofs.Finding.{count-append}
 use Rattle.print.specs.declared.Printout.{Printout}
@@ -199,3 +200,15 @@ pub prints-part :
     (f : ℕ → List ℕ) (k : ℕ) {p q r : Printout} → Prints p (parts_from f 0 k) q → Prints q (f k) r → Prints p (parts_from f 0 (k + 1)) r
 prints-part f k a b =
     prints-same (sym (parts-split f k 0 0 k (k + 1) (omega arith) (omega arith) ∙ ap (λ (l : List ℕ). parts_from f 0 k ++ l) (append-nil (f k)))) (prints_then a b)
+
+-- and all n parts, after the last
+pub prints-parts : (f : ℕ → List ℕ) {k n : ℕ} {p q : Printout} → k ≤ n → n ≤ k → Prints p (parts_from f 0 k) q → Prints p (parts_from f 0 n) q
+prints-parts f {k} {n} h l a = let all : k ≡ n = omega arith in prints-same (ap (λ (i : ℕ). parts_from f 0 i) all) a
+
+-- bytes 0 to k - 1 of s, and then byte k; and all of them, after the last
+pub prints-next :
+    (s : List ℕ) (k : ℕ) {p q r : Printout} → k < length s → Prints p (take k s) q → Prints q (get_or s k 0 ∷ []) r → Prints p (take (k + 1) s) r
+prints-next s k h a b = prints-same (sym (take_more s k 0 h)) (prints_then a b)
+
+pub prints-all : (s : List ℕ) {k : ℕ} {p q : Printout} → length s ≤ k → Prints p (take k s) q → Prints p s q
+prints-all s {k} h a = prints-same (take_all k s h) a
