@@ -6,11 +6,16 @@ use native.Mathlib.Nat.{zero-add}
 use native.Mathlib.Omega.{arith}
 use borrow.Author.Tests.{le-leb, lt-leb}
 use lib.ListN.{length}
+use Rattle.std.specs.Prelude.{Result, Ok, Err}
+use Rattle.std.specs.Result.{IsErrAnd}
 use Rattle.refusals.specs.Numbers.{number}
 use Rattle.refusals.specs.declared.Refusal.{Refusal}
 use Rattle.refusals.proofs.Positive.{positive}
 use Rattle.print.specs.declared.Written.TheVariants.{Text, Short, Refused}
+use Rattle.print.specs.declared.Unprinted.{Unprinted}
+use Rattle.print.specs.declared.Unprinted.TheVariants as unprinted
 use Rattle.print.specs.Printed.{top, Wrote, Output, output, whole_text}
+use Rattle.print.specs.Prints.{written_of}
 use Rattle.print.proofs.Writing.{after-fits}
 
 -- the place after a text that was written from the start on is its length
@@ -46,8 +51,11 @@ module _ {none m r : List ℕ} {n j : ℕ} (xs l : List ℕ) (bound : length xs 
   whole-printed room w same = ap (λ (k : List ℕ). output (Text j) k) same ∙ whole-written xs l bound measured room w
 
 -- k is what the definition says of the refusal that the code found, or that none was found
-pub refused-text : (r : Refusal) {k : ℕ} (xs l : List ℕ) → number r ≡ k → output (Refused (number r)) l ≡ whole_text k xs l
-refused-text r xs l e = whole-refused (number r) _ _ _ e (λ z. omega (arith, positive r, z))
+pub refused-text :
+    (o : Result ℕ Unprinted) (r : Refusal) {k : ℕ} (xs l : List ℕ) → IsErrAnd o (λ (e : Unprinted). e ≡ unprinted.Refused r) → number r ≡ k
+    → output (written_of o) l ≡ whole_text k xs l
+refused-text (Ok n) r xs l h e = absurd h
+refused-text (Err u) r xs l h e = rw h (whole-refused (number r) _ xs l e (λ z. omega (arith, positive r, z)))
 
 pub unrefused-text : {k : ℕ} (xs l : List ℕ) {o : Output} → 0 ≡ k → o ≡ whole_text 0 xs l → o ≡ whole_text k xs l
 unrefused-text xs l e w = w ∙ ap (λ (n : ℕ). whole_text n xs l) e

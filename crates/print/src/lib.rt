@@ -178,9 +178,9 @@ pub enum Unprinted {
 }
 
 impl From<Refusal> for Unprinted {
-    fn from(refusal: Refusal) -> Unprinted
-        ensures { result ≡ unprinted.Refused refusal }
-    {
+    ghost from_gives = { λ refusal e. e ≡ unprinted.Refused refusal };
+
+    fn from(refusal: Refusal) -> Unprinted {
         Unprinted::Refused(refusal)
     }
 }
