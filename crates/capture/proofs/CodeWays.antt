@@ -1,14 +1,16 @@
 -- Ways through the code, over plain variables.
 use mathlib.Core.Path.{◌≡◌, refl, sym, ap, subst, ◌∙◌}
-use mathlib.Core.Bool.{Bool, true, false, cond, ◌&&◌}
+use mathlib.Core.Bool.{Bool, true, false, cond}
 use mathlib.Core.List.{List, [], ◌∷◌}
 use Prim.Native.Nat.{ℕ, zero, suc, ◌+◌, ◌<◌, ◌≤◌}
 use native.Mathlib.Omega.{arith}
 use borrow.Author.Tests.{eq-eqb, eqb-true}
 use lib.Dec.{eqb}
 use lib.ListN.{length, get_or, drop, drop_of_length-le, length-drop}
-use Rattle.registers.specs.declared.Chip.{Chip}
-use Rattle.registers.specs.Record.{allowed}
+use Rattle.std.specs.Prelude.{Err}
+use Rattle.refusals.specs.declared.Refusal.{Refusal}
+use Rattle.refusals.specs.Numbers.{number}
+use Rattle.refusals.proofs.Positive.{positive}
 use Rattle.registers.specs.State.{State}
 use Rattle.text.proofs.Finding.{drop-next}
 use Rattle.chip.specs.Promised.{Outcome, Fit}
@@ -19,30 +21,20 @@ use Rattle.capture_lines.specs.declared.Scanned.{Scanned}
 use Rattle.capture_lines.specs.Line.{newline}
 use Rattle.capture_lines.specs.SoFar.{with_byte, scanned_from}
 use Rattle.capture.specs.declared.End.{End}
-use Rattle.capture.specs.declared.End.TheVariants as ends
-use Rattle.capture.specs.Feeding.{Playing, playing, line_after, played, ended_line, ended_past_entry, with_next, bytes_fed, line_allowed, kept_refusal, fed_unless}
-use Rattle.capture.specs.Feeding.{end_of, end_unless}
+use Rattle.capture.specs.Feeding.{Playing, playing, line_after, played, ended_line, ended_past_entry, with_next, bytes_fed, line_allowed, PartFed, fed_unless}
+use Rattle.capture.specs.Feeding.{end_unless}
 use Rattle.capture.specs.Lines.{PartlyFed}
 use Rattle.capture.specs.Where.{Passed}
 use Rattle.capture.proofs.Refusals.{with-byte-allowed, ended-passed}
 
--- ---- a line of a known kind
-
-module _ (known line : LineSoFar) (e : line ≡ known) where
-  pub ended-known : (s : State) (p : Playing) → p ≡ ended_past_entry known s → p ≡ ended_past_entry line s
-  ended-known s p h = rw e h
-
-  pub end_known : (c : Chip) (n : ℕ) (r : End) → r ≡ end_of known c n → r ≡ end_of line c n
-  end_known c n r h = rw e h
-
-  pub allowed-known : (t : Bool) → t ≡ line_allowed known → t ≡ line_allowed line
-  allowed-known t h = rw e h
-
 -- ---- one event
 
-pub after-refused : (k : ℕ) → (k ≡ 0 → ⊥) → Bad ≡ line_after k
-after-refused zero n = absurd (n refl)
-after-refused (suc k) n = refl
+pub after-refused : (r : Refusal) → Bad ≡ line_after (number r)
+after-refused r = go (number r) (positive r)
+  where
+    go : (k : ℕ) → 0 < k → Bad ≡ line_after k
+    go zero h = absurd (omega arith)
+    go (suc k) h = refl
 
 pub after-played : (o p : Outcome) (l : LineSoFar) → o ≡ p → l ≡ line_after o.refusal → playing l o.state ≡ played p
 after-played o p l h hl = rw (hl, h)
@@ -57,37 +49,25 @@ same_ended (Number e) s fit = ap played (run-past-entry (e ∷ []) s fit)
 same_ended BadFirst s fit = refl
 same_ended Bad s fit = refl
 
--- ---- the test of what is kept: a and b are what the code found
+-- ---- refusals: r is what the code found, k what the definition says
 
-module _ (a : Bool) (b : Bool) (l : LineSoFar) (c : Chip) (ea : a ≡ allowed c) (eb : b ≡ line_allowed l) where
-  pub kept-passed : a && b ≡ true → 0 ≡ kept_refusal l c
-  kept-passed h = let test : allowed c && line_allowed l ≡ true = rw (← ea, ← eb) h in rw test
-
-  pub kept-refused : a && b ≡ false → 2 ≡ kept_refusal l c
-  kept-refused h = let test : allowed c && line_allowed l ≡ false = rw (← ea, ← eb) h in rw test
-
--- ---- refusals: x is what the code found, k what the definition says
-
-module _ (x k : ℕ) (e : x ≡ k) where
-  pub part-refused : (next p : Playing) → (x ≡ 0 → ⊥) → record { refusal = x; after = p } ≡ fed_unless k next p
-  part-refused next p n = rw e (go k (λ z. n (e ∙ z)))
+module _ (r : Refusal) (k : ℕ) (e : number r ≡ k) where
+  pub part-refused : (next p : Playing) → record { refusal = number r; after = p } ≡ fed_unless k next p
+  part-refused next p = rw e (go k e)
     where
-      go : (j : ℕ) → (j ≡ 0 → ⊥) → record { refusal = j; after = p } ≡ fed_unless j next p
-      go zero n = absurd (n refl)
-      go (suc j) n = refl
+      go : (j : ℕ) → number r ≡ j → record { refusal = j; after = p } ≡ fed_unless j next p
+      go zero z = absurd (omega (arith, positive r))
+      go (suc j) z = refl
 
-  pub part-fed : (next p q : Playing) → x ≡ 0 → q ≡ next → record { refusal = 0; after = q } ≡ fed_unless k next p
-  part-fed next p q z h = let none : k ≡ 0 = sym e ∙ z in rw (none, h)
-
-  pub end_refused : (r : End) → (x ≡ 0 → ⊥) → ends.Refused x ≡ end_unless k r
-  end_refused r n = rw e (go k (λ z. n (e ∙ z)))
+  pub end_refused : (end : End) → Err (number r) ≡ end_unless k end
+  end_refused end = rw e (go k e)
     where
-      go : (j : ℕ) → (j ≡ 0 → ⊥) → ends.Refused j ≡ end_unless j r
-      go zero n = absurd (n refl)
-      go (suc j) n = refl
+      go : (j : ℕ) → number r ≡ j → Err j ≡ end_unless j end
+      go zero z = absurd (omega (arith, positive r))
+      go (suc j) z = refl
 
-  pub end-passed : (q r : End) → x ≡ 0 → q ≡ r → q ≡ end_unless k r
-  end-passed q r z h = let none : k ≡ 0 = sym e ∙ z in rw none h
+pub part-fed : (p q : Playing) → p ≡ q → ◌≡◌ {A = PartFed} (record { refusal = 0; after = p }) (record { refusal = 0; after = q })
+part-fed p q e = rw e
 
 -- ---- the bytes of a part
 

@@ -7,6 +7,7 @@ use mathlib.Core.Path.{◌≡◌, refl, sym, ap, ◌∙◌, subst}
 use Prim.Native.Nat.{ℕ, zero, suc, ◌+◌, ◌≤◌}
 use native.Mathlib.Omega.{arith}
 use lib.Dec.{T}
+use Rattle.std.specs.Prelude.{Ok, Err}
 use Rattle.registers.specs.declared.Chip.{Chip}
 use Rattle.registers.specs.declared.PixelCounts.{PixelCounts}
 use Rattle.registers.specs.Record.{reset_chip, with_pixels}
@@ -17,7 +18,7 @@ use Rattle.chip.specs.LastWriter.{Untouched, Written}
 use Rattle.chip.specs.Promised.{Fit, Outcome, run_of, refusal_of, counts_of, TrueCounts}
 use Rattle.chip.proofs.Laws.{last-writer, true-never-16}
 use Rattle.capture_lines.specs.declared.LineSoFar.{LineSoFar}
-use Rattle.capture_lines.specs.declared.LineSoFar.TheVariants.{First, Pins, Empty, Number, BadFirst, Bad}
+use Rattle.capture_lines.specs.declared.LineSoFar.TheVariants.{Empty}
 use Rattle.capture.specs.declared.Capture.{Capture}
 use Rattle.capture.specs.declared.End.TheVariants as ends
 use Rattle.capture.specs.Cells.{zeros, start, CellAfter}
@@ -57,22 +58,17 @@ refused-part-unchanged part p n = go (part_refusal p) refl
 -- the end is refused exactly where the last part was, by its number, or by 2 where what was kept is not allowed
 pub finish-refused-exactly :
     (k : ℕ) (c : Capture) (n : ℕ)
-    → (finish_of k c ≡ ends.Refused n)
+    → (finish_of k c ≡ Err n)
     ↔ (((k ≡ n) × (n ≡ 0 → ⊥)) ⊎ ((k ≡ 0) × (n ≡ 2) × (capture_allowed c.line c.chip ≡ false)))
 unfolding finish_of
 finish-refused-exactly k c n = go k (capture_allowed c.line c.chip)
   where
-    no_end : (l : LineSoFar) → end_of l c.chip c.count ≡ ends.Refused n → ⊥
-    no_end (First i) h = let z : ◌≡◌ {A = ℕ} 0 1 = cc h in omega arith
-    no_end (Pins i) h = let z : ◌≡◌ {A = ℕ} 0 1 = cc h in omega arith
-    no_end Empty h = let z : ◌≡◌ {A = ℕ} 0 1 = cc h in omega arith
-    no_end (Number i) h = let z : ◌≡◌ {A = ℕ} 0 1 = cc h in omega arith
-    no_end BadFirst h = let z : ◌≡◌ {A = ℕ} 0 1 = cc h in omega arith
-    no_end Bad h = let z : ◌≡◌ {A = ℕ} 0 1 = cc h in omega arith
+    no_end : (l : LineSoFar) → Ok (end_of l c.chip c.count) ≡ Err n → ⊥
+    no_end l h = let z : ◌≡◌ {A = ℕ} 0 1 = cc h in omega arith
 
     go :
         (k : ℕ) (a : Bool)
-        → (end_unless (k then refuse (not a) 2) (end_of c.line c.chip c.count) ≡ ends.Refused n)
+        → (end_unless (k then refuse (not a) 2) (end_of c.line c.chip c.count) ≡ Err n)
         ↔ (((k ≡ n) × (n ≡ 0 → ⊥)) ⊎ ((k ≡ 0) × (n ≡ 2) × (a ≡ false)))
     go zero true = (λ h. absurd (no_end c.line h), ⊎_elim (λ h. absurd (h.1 (sym h.0))) (λ h. absurd (subst T h.2 tt)))
     go zero false = (λ h. inr (refl, cc h, refl), ⊎_elim (λ h. absurd (h.1 (sym h.0))) (λ h. rw h.1))
@@ -214,7 +210,7 @@ leaves-true text m w = ⊎_elim (λ lent. over (ended m w lent text)) (λ n. rw 
     over (refused-after n end r q) = rw q (stopped-true n text m w end r)
 
 -- and so are those of the chip that an end hands out, which `state` prints: they are the counts of the memory as it is then
-pub whole-true : (c : Chip) (n : ℕ) (m w text m₀ w₀ : List ℕ) → meaning (ends.Whole c n) m w ≡ replay_of text m₀ w₀ → c.pixels ≡ counts_of m
+pub whole-true : (c : Chip) (n : ℕ) (m w text m₀ w₀ : List ℕ) → meaning (Ok (ends.Whole c n)) m w ≡ replay_of text m₀ w₀ → c.pixels ≡ counts_of m
 unfolding meaning
 whole-true c n m w text m₀ w₀ h = subst (λ (r : Replay). TrueCounts (left_by r)) (sym h) (leaves-true text m₀ w₀)
 

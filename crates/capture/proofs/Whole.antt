@@ -7,6 +7,7 @@ use native.Mathlib.Nat.{add-zero}
 use native.Mathlib.Omega.{arith}
 use borrow.Author.Tests.{leb-true}
 use lib.Dec.{eqb, ltb}
+use Rattle.std.specs.Prelude.{Ok}
 use lib.ListN.{length, get_or}
 use lib.Seq.{append_snoc}
 use Rattle.registers.specs.State.{State}
@@ -35,7 +36,7 @@ use Rattle.capture.proofs.Refusals.{started-fit, with-bytes-allowed}
 
 -- what it comes to if nothing more is fed
 abbrev pub result_of : Playing → Replay
-result_of p = meaning (end_of p.line p.state.chip p.state.count) p.state.memory p.state.writers
+result_of p = meaning (Ok (end_of p.line p.state.chip p.state.count)) p.state.memory p.state.writers
 
 -- what the lines say is played, n events being done
 abbrev pub play_from : ℕ → EventsRead → State → Replay

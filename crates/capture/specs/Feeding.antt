@@ -1,5 +1,7 @@
 -- A capture part by part: what is kept between parts, and what a newline does. proofs/Laws.antt holds it against `replay_of`.
-use Rattle.std.specs.Prelude.{Bool, true, cond, not, ◌&&◌, ◌||◌, List, [], ◌∷◌, ◌++◌, ℕ, zero, suc, ◌+◌, eqb, leb, length}
+use Rattle.std.specs.Prelude.{Result, Ok, Err, Bool, true, cond, not, ◌&&◌, ◌||◌, List, [], ◌∷◌, ◌++◌, ℕ, zero, suc, ◌+◌, eqb, leb, length}
+use Rattle.refusals.specs.declared.Refusal.{Refusal}
+use Rattle.refusals.specs.Numbers.{number}
 use Rattle.registers.specs.declared.Chip.{Chip}
 use Rattle.registers.specs.Record.{allowed, reset_chip}
 use Rattle.registers.specs.Refusals.{refuse, ◌then◌, lengths_refusal}
@@ -95,6 +97,11 @@ pub record PartFed : Type 0 where
 abbrev pub fed : ℕ → Capture → List ℕ → List ℕ → PartFed
 fed k c m w = record { refusal = k; after = kept c m w }
 
+-- what a part comes to for one who hands over `before`: refused, it leaves that as it was
+abbrev pub fed_by : Result Capture Refusal → Capture → List ℕ → List ℕ → PartFed
+fed_by (Ok c) before m w = fed 0 c m w
+fed_by (Err r) before m w = fed (number r) before m w
+
 -- a refused part changes nothing
 abbrev pub fed_unless : ℕ → Playing → Playing → PartFed
 fed_unless zero next p = record { refusal = 0; after = next }
@@ -137,17 +144,17 @@ end_of (Number e) c n = ends.Bad c n
 end_of BadFirst c n = ends.BadFirst
 end_of Bad c n = ends.Bad c n
 
-abbrev pub end_unless : ℕ → End → End
-end_unless zero e = e
-end_unless (suc k) e = ends.Refused (suc k)
+abbrev pub end_unless : ℕ → End → Result End ℕ
+end_unless zero e = Ok e
+end_unless (suc k) e = Err (suc k)
 
 -- a line that is not ended by its newline is bad. k is the refusal of the last part, 0 being none; then 2 where what was kept is not allowed
-unfoldable pub finish_of : ℕ → Capture → End
+unfoldable pub finish_of : ℕ → Capture → Result End ℕ
 finish_of k c = end_unless (k then kept_refusal c.line c.chip) (end_of c.line c.chip c.count)
 
--- what an end says, with the memories as they are then. The line of a bad event is count + 2, whatever the width of the count
-unfoldable pub meaning : End → List ℕ → List ℕ → Replay
-meaning (ends.Refused k) m w = refused_by k (started 0 m w)
-meaning ends.BadFirst m w = refused_at 1 (started 0 m w)
-meaning (ends.Bad c n) m w = refused_at (n + 2) (state c m w n)
-meaning (ends.Whole c n) m w = replayed (state c m w n)
+-- what an end says, or the number by which it is refused, with the memories as they are then. The line of a bad event is count + 2, whatever the width of the count
+unfoldable pub meaning : Result End ℕ → List ℕ → List ℕ → Replay
+meaning (Err k) m w = refused_by k (started 0 m w)
+meaning (Ok ends.BadFirst) m w = refused_at 1 (started 0 m w)
+meaning (Ok (ends.Bad c n)) m w = refused_at (n + 2) (state c m w n)
+meaning (Ok (ends.Whole c n)) m w = replayed (state c m w n)

@@ -2,12 +2,14 @@
 #![tactic(auto)]
 
 ghost use Rattle.std.specs.Prelude.{◌≡◌, ◌≤◌, length};
-ghost use Rattle.capture.specs.Feeding.{kept, start_of, bytes_fed, fed, feed_of, end_of, finish_of, is_over_at};
+ghost use Rattle.refusals.specs.Numbers.{numbered};
+ghost use Rattle.capture.specs.Feeding.{kept, start_of, bytes_fed, fed_by, feed_of, end_of, finish_of, is_over_at};
 ghost use Rattle.capture.specs.Lines.{PartlyFed};
 ghost use Rattle.capture.specs.Where.{Passed};
 
 use crate::play::LinesPlayed;
 use capture_lines::LineSoFar;
+use refusals::Refusal;
 use registers::Chip;
 
 pub mod play;
@@ -22,19 +24,10 @@ pub struct Capture {
     pub line: LineSoFar,
 }
 
-// What a part comes to: the number of its refusal, 0 being none, and what is kept then. A refused part leaves it as it was.
-#[derive(Clone, Copy)]
-pub struct Fed {
-    pub refusal: u8,
-    pub capture: Capture,
-}
-
 // What a capture comes to, with the chip and the count of its events. A bad event line is the line after those and the first line:
 // count + 2, a number that need not fit 64 bits.
 #[derive(Clone, Copy)]
 pub enum End {
-    // No replay: 1, a lent memory isn't 1,717 long; 2, what was kept is not allowed.
-    Refused(u8),
     BadFirst,
     Bad(Chip, u64),
     Whole(Chip, u64),
@@ -64,12 +57,10 @@ fn whole_lines(
     ensures { PartlyFed part.now from (kept capture memory.old writers.old)
         (kept result.capture memory.new writers.new) result.at }
 {
-    let line = capture.line;
-    if let LineSoFar::Empty = line {
-        let chip = capture.chip;
-        return play::event_lines(chip, capture.count, memory, writers, part, from);
+    match capture.line {
+        LineSoFar::Empty => play::event_lines(capture, memory, writers, part, from),
+        _ => LinesPlayed { capture, at: from },
     }
-    LinesPlayed { capture, at: from }
 }
 
 // The bytes of a part that is not refused: whole lines many at a time, and what these leave byte by byte up to the next newline.
@@ -80,18 +71,17 @@ fn feed_bytes(capture: Capture, memory: &mut [u8], writers: &mut [u64], part: &[
 {
     let mut fed = capture;
     let mut at = 0;
+    // kept (no plainer): the place is moved on by two readers, each as far as it read, so that no range and no iterator counts it
     while at < part.len() {
         let lines = whole_lines(fed, memory, writers, part, at);
-        let played = lines.capture;
-        let chip = played.chip;
-        let count = played.count;
-        let begun = played.line;
-        let scanned = capture_lines::scan(begun, part, lines.at);
-        let line = scanned.line;
+        let scanned = capture_lines::scan(lines.capture.line, part, lines.at);
+        fed = Capture {
+            line: scanned.line,
+            ..lines.capture
+        };
         at = scanned.at;
-        fed = Capture { chip, count, line };
         if at < part.len() {
-            fed = play::end_line(chip, count, line, memory, writers);
+            fed = play::end_line(fed, memory, writers);
             at += 1;
         }
     }
@@ -100,60 +90,40 @@ fn feed_bytes(capture: Capture, memory: &mut [u8], writers: &mut [u64], part: &[
 
 // The next bytes, any number of them. The memories are those that the events write; at the start of a capture they are lent as zeros.
 // Refused by 1 or 2, also with no bytes; then nothing is changed.
-pub fn feed(capture: Capture, memory: &mut [u8], writers: &mut [u64], part: &[u8]) -> Fed
-    ensures { fed result.refusal result.capture memory.new writers.new
+pub fn feed(
+    capture: Capture,
+    memory: &mut [u8],
+    writers: &mut [u64],
+    part: &[u8],
+) -> Result<Capture, Refusal>
+    ensures { fed_by result capture memory.new writers.new
         ≡ feed_of part.now (kept capture memory.old writers.old) }
 {
-    let refused = refusal::of_part(capture, memory.len(), writers.len());
-    if refused != 0 {
-        return Fed {
-            refusal: refused,
-            capture,
-        };
-    }
-    Fed {
-        refusal: 0,
-        capture: feed_bytes(capture, memory, writers, part),
+    refusal::of_part(capture, memory.len(), writers.len())?;
+    Ok(feed_bytes(capture, memory, writers, part))
+}
+
+fn end_of(capture: Capture) -> End
+    ensures { result ≡ end_of capture.line capture.chip capture.count }
+{
+    match capture.line {
+        LineSoFar::Empty => End::Whole(capture.chip, capture.count),
+        LineSoFar::Number(_) | LineSoFar::Bad => End::Bad(capture.chip, capture.count),
+        LineSoFar::First(_) | LineSoFar::Pins(_) | LineSoFar::BadFirst => End::BadFirst,
     }
 }
 
-fn end_of(line: LineSoFar, chip: Chip, count: u64) -> End
-    ensures { result ≡ end_of line chip count }
+// No byte follows: a line that is not ended by its newline is bad. Refused by 2 where what was kept is not allowed.
+pub fn finish(capture: Capture) -> Result<End, Refusal>
+    ensures { numbered result ≡ finish_of 0 capture }
 {
-    match line {
-        LineSoFar::First(_) => End::BadFirst,
-        LineSoFar::Pins(_) => End::BadFirst,
-        LineSoFar::Empty => End::Whole(chip, count),
-        LineSoFar::Number(_) => End::Bad(chip, count),
-        LineSoFar::BadFirst => End::BadFirst,
-        LineSoFar::Bad => End::Bad(chip, count),
-    }
+    refusal::of_kept(capture)?;
+    Ok(end_of(capture))
 }
 
-// No byte follows: a line that is not ended by its newline is bad. Refused by the number of the last part's refusal, or by 2 where what was kept
-// is not allowed.
-pub fn finish(fed: Fed) -> End
-    ensures { result ≡ finish_of fed.refusal fed.capture }
+// Whether nothing that follows changes what the capture comes to: a line was refused.
+pub fn is_over(capture: Capture) -> bool
+    ensures { result ≡ is_over_at 0 capture.line }
 {
-    let last = fed.refusal;
-    if last != 0 {
-        return End::Refused(last);
-    }
-    let capture = fed.capture;
-    let chip = capture.chip;
-    let line = capture.line;
-    let refused = refusal::of_kept(line, chip);
-    if refused != 0 {
-        return End::Refused(refused);
-    }
-    end_of(line, chip, capture.count)
-}
-
-// Whether nothing that follows changes what the capture comes to: a part was refused by a number, or a line.
-pub fn is_over(fed: Fed) -> bool
-    ensures { result ≡ is_over_at fed.refusal fed.capture.line }
-{
-    let capture = fed.capture;
-    let line = capture.line;
-    (fed.refusal != 0) | capture_lines::is_refused(line)
+    capture_lines::is_refused(capture.line)
 }

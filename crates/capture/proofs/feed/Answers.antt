@@ -1,18 +1,16 @@
 use Rattle.capture.proofs.CodeWays.{part-refused, part-fed}
 use Rattle.capture.specs.Feeding.{feed_of}
-use Rattle.capture.proofs.Refusals.{none-refused}
-use mathlib.Core.Path.{sym, ◌∙◌}
+use native.Mathlib.Omega.{arith}
 use Rattle.capture.proofs.feed.Goals as goal
 
-pub returns-then-refused-ne0 : goal.returns-then-refused-ne0
+pub returns-in_err-of_part : goal.returns-in_err-of_part
 unfolding feed_of
-returns-then-refused-ne0 c = part-refused _ _ c.of_part-refused.ensures _ _ c.if-refused-ne0.true
-
-pub feed_bytes-requires : goal.feed_bytes-requires
-feed_bytes-requires c =
-    none-refused _ (sym c.of_part-refused.ensures ∙ c.if-refused-ne0.false)
+returns-in_err-of_part c =
+    let refused = part-refused _ _ c.in_err-of_part.ensures in
+    grind (arith, refused)
 
 pub returns : goal.returns
 unfolding feed_of
 returns c =
-    part-fed _ _ c.of_part-refused.ensures _ _ _ c.if-refused-ne0.false c.feed_bytes.ensures
+    let none = c.in_ok-of_part.ensures in
+    rw (← none) (part-fed _ _ c.feed_bytes.ensures)
