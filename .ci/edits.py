@@ -58,7 +58,7 @@ TRIED = re.compile(r"rt: must-fail (\w+)/(\S+)\.edit: (.*)")
 REFUSED = "refused, as it must be: "
 PLACE = re.compile(r"(note: )?(?:\./)?(\S+?)(?::(\d+):\d+)?: (?:error(?:\[[\w-]+\])?: |(?=it is not proved|`search` found no proof))")
 
-RUST_ITEM = re.compile(r"^ *(?:pub )?(?:extern \"C\" )?(?:fn|const|static|struct|enum|impl) (\w+)", re.M)
+RUST_ITEM = re.compile(r"^(?: *#\[.*\]\n)* *(?:pub )?(?:extern \"C\" )?(?:fn|const|static|struct|enum|impl) (\w+)", re.M)
 LEMMA_ITEM = re.compile(r"^(?!--|use |pub use |unfolding |mod |pub mod )"
                         r"(?:(?:pub|abbrev|unfoldable|record|data|module|mutual) +)*(\S+)", re.M)
 WORD = re.compile(r"[^\s(){}\[\],;:.`<>&|!]+")

@@ -1,36 +1,22 @@
--- Ways through the dispatch of a row and through the test of its range, over plain variables.
-use mathlib.Core.Path.{◌≡◌, refl, sym, ap, ◌∙◌}
+-- A row past the table, and the test of a row's range, over plain variables.
+use mathlib.Core.Path.{◌≡◌, refl, sym, ap}
 use mathlib.Core.Bool.{Bool, true, false, ◌&&◌, ◌||◌}
 use mathlib.Core.List.{List, [], ◌∷◌, map}
-use Prim.Native.Nat.{ℕ, ◌%◌, ◌≤◌, ◌<◌}
+use Prim.Native.Nat.{ℕ, ◌≤◌, ◌<◌}
 use native.Mathlib.Decide.{dec_lt}
 use native.Mathlib.Omega.{arith}
 use borrow.Author.Tests.{ne_eqb}
 use lib.Dec.{T, eqb}
 use lib.ListN.{get_or-eq_default}
 use Rattle.registers.specs.declared.Registers.{Registers}
-use Rattle.registers.specs.Record.{put}
-use Rattle.registers.specs.Places.{H}
-use Rattle.registers.specs.Table.{Target, Row, Part, rows, taken, in_range_of, value, in_range, page_return}
+use Rattle.registers.specs.Table.{Target, Row, Part, rows, taken, in_range_of, value, in_range}
 use Rattle.registers.specs.Table.Target.{register, bounded, selected, unheld}
-use Rattle.registers.proofs.Below.{all_below, below_at, and_left, and_right, and-true}
+use Rattle.registers.proofs.Below.{all_below, below_at, and_left, and_right}
 use Rattle.commands.specs.Command.{parts_at}
 
-module _ (b : ℕ) (r : Registers) (i : ℕ) where
-  -- it is row k, and x is what row k does
-  pub by_row : (k : ℕ) (x : Registers) → i ≡ k → x ≡ taken (parts_at k) b r → x ≡ taken (parts_at i) b r
-  by_row k x at h = h ∙ ap (λ (j : ℕ). taken (parts_at j) b r) (sym at)
-
-  -- it is past the table
-  pub by-none : 21 ≤ i → r ≡ taken (parts_at i) b r
-  by-none h = sym (ap (λ (ps : List Part). taken ps b r) (get_or-eq_default (map (λ (w : Row). w.parts) rows) [] h))
-
--- page return's field has no bits, so every byte says page 0
-pub page-zero : (b : ℕ) (r : Registers) → taken page_return.parts 1 r ≡ taken page_return.parts b r
-page-zero b r = ap (λ (n : ℕ). put H n r) (zero_of b)
-  where
-    zero_of : (b : ℕ) → 0 ≡ b % 1
-    zero_of b = omega arith
+-- a row past the table does nothing
+pub by-none : (b : ℕ) (r : Registers) (i : ℕ) → 21 ≤ i → r ≡ taken (parts_at i) b r
+by-none b r i h = sym (ap (λ (ps : List Part). taken ps b r) (get_or-eq_default (map (λ (w : Row). w.parts) rows) [] h))
 
 -- ---- the range
 
@@ -55,10 +41,6 @@ unbounded-in-range (p ∷ ps) t b =
     go (bounded f) u rest = absurd u
     go selected u rest = rest
     go unheld u rest = rest
-
--- it is row k, whose one number is in range where t says so
-pub by-range : (i b k : ℕ) (t : Bool) → i ≡ k → in_range (parts_at k) b ≡ t && true → t ≡ in_range (parts_at i) b
-by-range i b k t at h = sym (and-true t) ∙ sym h ∙ ap (λ (j : ℕ). in_range (parts_at j) b) (sym at)
 
 -- the three rows that have a bound: pages, Y and X
 abbrev has_bound : ℕ → Bool

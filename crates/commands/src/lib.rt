@@ -11,13 +11,14 @@ pub mod answer;
 mod pages;
 
 // The answer to a command byte, and the registers after it.
-#[derive(Clone, Copy)]
+#[derive(Clone, Copy, Debug, PartialEq, Eq, Hash)]
 pub struct Commanded {
     pub answer: CommandAnswer,
     pub registers: Registers,
 }
 
 // The row is found once, for both.
+#[tactic(auto, unfolding(crate::specs::Command::command_of, crate::specs::Command::answer_to))]
 pub fn command(registers: Registers, byte: u8) -> Commanded
     ensures registers_value { result.registers ≡ command_of byte registers }
     ensures answer_value { result.answer ≡ answer_to registers.h byte }
