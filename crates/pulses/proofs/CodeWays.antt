@@ -1,16 +1,24 @@
 -- Ways through the code, over plain variables.
-use mathlib.Core.Path.{◌≡◌, refl, sym, ap, ◌∙◌}
-use mathlib.Core.List.{List, [], ◌∷◌}
+use mathlib.Core.Path.{◌≡◌, sym, ap, subst, ◌∙◌}
+use mathlib.Core.List.{List}
 use Prim.Native.Nat.{ℕ, zero, suc, ◌*◌, ◌^◌, ◌≤◌, ◌<◌}
 use native.Mathlib.Omega.{arith}
 use native.Mathlib.Nat.{mul-le-mul}
 use lib.ListN.{length}
+use Rattle.std.specs.Prelude.{Ok, Err}
+use Rattle.refusals.specs.declared.Refusal.{Refusal}
+use Rattle.refusals.specs.Numbers.{number}
+use Rattle.refusals.proofs.Positive.{positive}
 use Rattle.registers.specs.declared.Chip.{Chip}
-use Rattle.print.specs.Printed.{top, Wrote, parts_from}
-use Rattle.print.proofs.Writing.{wrote_then, wrote-length, wrote-same, wrote-all}
-use Rattle.pulses.specs.declared.answer.Pulses.{Pulses}
-use Rattle.pulses.specs.Pulse.{pulses_of}
-use Rattle.pulses.specs.Row.{bytes_for, pixel_bytes, columns, row_bytes, row_refusal, pulse_row, row_of}
+use Rattle.registers.proofs.Refusals.{then-zero}
+use Rattle.glass.specs.declared.answer.Shown.{Shown}
+use Rattle.glass.specs.declared.answer.Shown.TheVariants as shown
+use Rattle.glass.specs.Glass.{glass_refusal, ram_row_of, shown_at, glass_of}
+use Rattle.glass.proofs.Laws.{as-its-row}
+use Rattle.print.specs.Printed.{Wrote, parts_from}
+use Rattle.print.proofs.Writing.{wrote-all}
+use Rattle.pulses.specs.Pulse.{pulses_for, pulses_of}
+use Rattle.pulses.specs.Row.{pixel_bytes, columns, row_bytes, buffer_refusal, row_refusal, row_unless, pulse_row, row_of}
 use Rattle.pulses.proofs.Refusals.{row-exactly}
 use Rattle.pulses.proofs.Rows.{row-long}
 
@@ -23,44 +31,40 @@ product-fits g k hg hk =
     let most : k * g ≤ 256 * 255 = mul-le-mul hk g-bound in
     omega arith
 
--- ---- four bytes
+-- ---- a row that is not refused
 
-pub four-wrote :
-    {l m o q r : List ℕ} {i j k n e : ℕ} (a b c d : ℕ)
-    → length l ≤ top
-    → Wrote l i (a ∷ []) m j
-    → Wrote m j (b ∷ []) o k
-    → Wrote o k (c ∷ []) q n
-    → Wrote q n (d ∷ []) r e
-    → Wrote l i (a ∷ b ∷ c ∷ d ∷ []) r e
-four-wrote {l} {m} {o} a b c d l-fits first second third fourth =
-    let m-fits : length m ≤ top = omega (arith, wrote-length first) in
-    let o-fits : length o ≤ top = omega (arith, wrote-length second) in
-    wrote_then l-fits first (wrote_then m-fits second (wrote_then o-fits third fourth))
+answered : (s : Shown) (n : ℕ) → Err n ≡ pulses_for (Ok s) → ⊥
+answered (shown.Level g) n e = cc
+answered shown.Dark n e = cc
+answered shown.Undriven n e = cc
 
--- ---- the row
+-- none of its pixels is
+pub pixels-pass :
+    (c : Chip) (memory : List ℕ) (row column out : ℕ) → 0 ≡ row_refusal c (length memory) row out → column ≤ 100
+    → (n : ℕ) → Err n ≡ pulses_of c memory row column → ⊥
+unfolding row_refusal glass_of
+pixels-pass c memory row column out e h n w =
+    let first = (then-zero (glass_refusal c (length memory) row 0) (buffer_refusal out) (sym e)).0 in
+    let passed : glass_refusal c (length memory) row column ≡ 0 = as-its-row c (length memory) row column h ∙ first in
+    answered (shown_at c.registers memory (ram_row_of c row) column) n (rw passed at w)
 
-pub pixel-wrote :
-    {l r : List ℕ} {i j : ℕ} (c : Chip) (memory : List ℕ) (row column : ℕ) (p : Pulses)
-    → p ≡ pulses_of c memory row column → Wrote l i (bytes_for p) r j → Wrote l i (pixel_bytes c memory row column) r j
-pixel-wrote c memory row column p e w = wrote-same (ap bytes_for e) w
+-- a buffer of its length, written from its start on, is the row's bytes
+pub row_written :
+    {l r : List ℕ} {j k : ℕ} (c : Chip) (memory : List ℕ) (row : ℕ) (out : List ℕ)
+    → 0 ≡ row_refusal c (length memory) row (length out) → k ≡ columns → Wrote out 0 (parts_from (pixel_bytes c memory row) 0 k) l j → r ≡ l
+    → pulse_row 0 r ≡ row_of c memory row out
+unfolding row_of row_bytes
+row_written {l} {r} {j} c memory row out e all w s =
+    let passed = (row-exactly c (length memory) row (length out) 0).0 (sym e) in
+    let whole = subst (λ (n : ℕ). Wrote out 0 (parts_from (pixel_bytes c memory row) 0 n) l j) all w in
+    rw (sym e, s, wrote-all (row-long c memory row ∙ sym passed.3) whole)
 
-pub row_wrote :
-    {l r : List ℕ} {j : ℕ} (c : Chip) (memory : List ℕ) (row : ℕ)
-    → Wrote l 0 (parts_from (pixel_bytes c memory row) 0 columns) r j → Wrote l 0 (row_bytes c memory row) r j
-unfolding row_bytes
-row_wrote c memory row w = w
-
-module _ (c : Chip) (memory : List ℕ) (row : ℕ) (out : List ℕ) (x : ℕ) (refusal : x ≡ row_refusal c (length memory) row (length out)) where
-  pub row_written : {r : List ℕ} {j : ℕ} → x ≡ 0 → Wrote out 0 (row_bytes c memory row) r j → pulse_row 0 r ≡ row_of c memory row out
-  unfolding row_of
-  row_written z w =
-      let passed = (row-exactly c (length memory) row (length out) 0).0 (sym refusal ∙ z) in
-      rw (sym refusal ∙ z, wrote-all (row-long c memory row ∙ sym passed.3) w)
-
-pub row-refused :
-    (c : Chip) (memory : List ℕ) (row : ℕ) (out : List ℕ) (x : ℕ) → x ≡ row_refusal c (length memory) row (length out) → (x ≡ 0 → ⊥)
-    → pulse_row x out ≡ row_of c memory row out
+pub row_refused :
+    (c : Chip) (memory : List ℕ) (row : ℕ) (out : List ℕ) (r : Refusal) → number r ≡ row_refusal c (length memory) row (length out)
+    → pulse_row (number r) out ≡ row_of c memory row out
 unfolding row_of
-row-refused c memory row out zero e n = absurd (n refl)
-row-refused c memory row out (suc k) e n = rw (← e)
+row_refused c memory row out r e = go (row_refusal c (length memory) row (length out)) e
+  where
+    go : (x : ℕ) → number r ≡ x → pulse_row (number r) out ≡ row_unless x (row_bytes c memory row) out
+    go zero z = absurd (omega (arith, positive r, z))
+    go (suc k) z = ap (λ (n : ℕ). pulse_row n out) z

@@ -6,16 +6,17 @@ use native.Mathlib.Omega.{arith}
 use lib.ListN.{length, get_or}
 use Rattle.registers.specs.declared.Chip.{Chip}
 use Rattle.print.proofs.Writing.{parts-length, parts_at}
+use Rattle.std.specs.Prelude.{Result, Ok, Err}
 use Rattle.pulses.specs.declared.answer.Pulses.{Pulses}
-use Rattle.pulses.specs.declared.answer.Pulses.TheVariants.{Refused, Dark, Undriven, Lit}
+use Rattle.pulses.specs.declared.answer.Pulses.TheVariants.{Dark, Undriven, Lit}
 use Rattle.pulses.specs.Pulse.{pulses_of}
 use Rattle.pulses.specs.Row.{bytes_for, pixel_bytes, columns, row_length, row_bytes}
 
-four_bytes : (p : Pulses) → length (bytes_for p) ≡ 4
-four_bytes (Lit a b c d) = refl
-four_bytes Dark = refl
-four_bytes Undriven = refl
-four_bytes (Refused n) = refl
+four_bytes : (p : Result Pulses ℕ) → length (bytes_for p) ≡ 4
+four_bytes (Ok (Lit a b c d)) = refl
+four_bytes (Ok Dark) = refl
+four_bytes (Ok Undriven) = refl
+four_bytes (Err n) = refl
 
 module _ (c : Chip) (memory : List ℕ) (row : ℕ) where
   each-four : (column : ℕ) → length (pixel_bytes c memory row column) ≡ 4

@@ -1,22 +1,22 @@
 -- The pulses of a whole row of the glass in a buffer of 404 bytes, for every input: refusals 1, 2, 5 and 11 in their order.
-use Rattle.std.specs.Prelude.{not, List, [], ◌∷◌, ℕ, zero, suc, ◌*◌, eqb, length}
+use Rattle.std.specs.Prelude.{not, List, [], ◌∷◌, Result, Ok, Err, ℕ, zero, suc, ◌*◌, eqb, length}
 use Rattle.registers.specs.declared.Chip.{Chip}
 use Rattle.registers.specs.Refusals.{refuse, ◌then◌}
 use Rattle.glass.specs.Glass.{glass_refusal}
 use Rattle.print.specs.Printed.{parts_from}
 use Rattle.pulses.specs.declared.answer.Pulses.{Pulses}
-use Rattle.pulses.specs.declared.answer.Pulses.TheVariants.{Refused, Dark, Undriven, Lit}
+use Rattle.pulses.specs.declared.answer.Pulses.TheVariants.{Dark, Undriven, Lit}
 use Rattle.pulses.specs.Pulse.{pulses_of}
 
 -- ---- the bytes
 
 -- a pixel's four bytes: its pulses from frame 0 on; 254 four times if it is dark, 255 if it is undriven. In a row that is not refused no pixel is, so that
 -- the number of a refusal is never seen
-abbrev pub bytes_for : Pulses → List ℕ
-bytes_for (Lit a b c d) = a ∷ b ∷ c ∷ d ∷ []
-bytes_for Dark = 254 ∷ 254 ∷ 254 ∷ 254 ∷ []
-bytes_for Undriven = 255 ∷ 255 ∷ 255 ∷ 255 ∷ []
-bytes_for (Refused n) = n ∷ n ∷ n ∷ n ∷ []
+abbrev pub bytes_for : Result Pulses ℕ → List ℕ
+bytes_for (Ok (Lit a b c d)) = a ∷ b ∷ c ∷ d ∷ []
+bytes_for (Ok Dark) = 254 ∷ 254 ∷ 254 ∷ 254 ∷ []
+bytes_for (Ok Undriven) = 255 ∷ 255 ∷ 255 ∷ 255 ∷ []
+bytes_for (Err n) = n ∷ n ∷ n ∷ n ∷ []
 
 abbrev pub pixel_bytes : Chip → List ℕ → ℕ → ℕ → List ℕ
 pixel_bytes c memory row column = bytes_for (pulses_of c memory row column)

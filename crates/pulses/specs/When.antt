@@ -1,5 +1,5 @@
 -- Exactly when each refusal of a row's pulses comes (document 01, "Numbers given back", 1, 2 and 5; document 02, W4, 11); and what it is to be lit.
-use Rattle.std.specs.Prelude.{true, false, List, [], ◌∷◌, ◌≡◌, ℕ, ◌≤◌, ◌<◌, get_or}
+use Rattle.std.specs.Prelude.{true, false, List, [], ◌∷◌, Result, Ok, ◌≡◌, ℕ, ◌≤◌, ◌<◌, get_or}
 use Rattle.registers.specs.declared.Chip.{Chip}
 use Rattle.registers.specs.Record.{allowed}
 use Rattle.registers.specs.State.{places}
@@ -29,6 +29,6 @@ abbrev pub RowWhen : Chip → ℕ → ℕ → ℕ → ℕ → Type 0
 RowWhen c memoryLength row outLength k = get_or (row_conditions c memoryLength row outLength) k ⊥
 
 -- a level is shown
-pub record IsLit (s : Shown) : Type 0 where
+pub record IsLit (s : Result Shown ℕ) : Type 0 where
   pub level : ℕ
-  pub shows : s ≡ shown.Level level
+  pub shows : s ≡ Ok (shown.Level level)
