@@ -1,93 +1,103 @@
 // What a bus event is, in words, and how it is answered: a line for each event.
 #![tactic(auto)]
 
-ghost use Rattle.print.specs.Printed.{Wrote};
+ghost use Rattle.std.specs.Prelude.{◌≡◌};
+ghost use Rattle.refusals.specs.Numbers.{number};
+ghost use Rattle.print.specs.Prints.{Prints};
+ghost use Rattle.engine.specs.Answer.{given, told};
 ghost use Rattle.event_words.specs.Words.{sensor_words, event_words, what_of, command_answer_words, refused_words, answer_words};
 ghost use Rattle.event_words.specs.Line.{event_line};
 
 use commands::answer::CommandAnswer;
 use engine::answer::Answer;
 use engine::event::Event;
+use print::Printout;
+use refusals::Refusal;
 use registers::Chip;
 
 mod byte;
 mod command;
 
-const TAB: u8 = 9;
-
-const NEWLINE: u8 = 10;
-
-fn sensor(value: u8, out: &mut [u8], at: usize) -> usize
-    ensures { Wrote out.old at (sensor_words value) out.new result }
+fn sensor(value: u8, out: &mut Printout)
+    ensures { Prints out.old (sensor_words value) out.new }
 {
-    let next = print::bytes(b"sensor ", out, at);
-    print::decimal(value as u64, out, next)
+    out.bytes(b"sensor ");
+    out.decimal(u64::from(value));
 }
 
-fn event_words(event: Event, chip: Chip, out: &mut [u8], at: usize) -> usize
-    ensures { Wrote out.old at (event_words event chip) out.new result }
+#[tactic(auto, unfolding(crate::specs::Words::event_words))]
+fn event_words(event: Event, chip: Chip, out: &mut Printout)
+    ensures { Prints out.old (event_words event chip) out.new }
 {
     match event {
-        Event::Byte(b) => {
-            let phase = chip.phase;
-            byte::words(phase, chip.registers, b, out, at)
-        }
-        Event::Start => print::bytes(b"start", out, at),
-        Event::Stop => print::bytes(b"stop", out, at),
-        Event::ReadAcknowledged => print::bytes(b"read", out, at),
-        Event::ReadNotAcknowledged => print::bytes(b"last read", out, at),
-        Event::Reset => print::bytes(b"reset", out, at),
-        Event::Sensor(value) => sensor(value, out, at),
-        Event::Unlisted => at,
+        Event::Byte(byte) => byte::words(chip.phase, chip.registers, byte, out),
+        Event::Start => out.bytes(b"start"),
+        Event::Stop => out.bytes(b"stop"),
+        Event::ReadAcknowledged => out.bytes(b"read"),
+        Event::ReadNotAcknowledged => out.bytes(b"last read"),
+        Event::Reset => out.bytes(b"reset"),
+        Event::Sensor(value) => sensor(value, out),
+        Event::Unlisted => {}
     }
 }
 
 // What the event is to a chip that stands as this one does before it.
-pub fn what(event: u16, chip: Chip, out: &mut [u8], at: usize) -> usize
-    ensures { Wrote out.old at (what_of event chip) out.new result }
+pub fn what(event: u16, chip: Chip, out: &mut Printout)
+    ensures { Prints out.old (what_of event chip) out.new }
 {
-    event_words(Event::of(event), chip, out, at)
+    event_words(Event::of(event), chip, out);
 }
 
-fn command_answer(answer: CommandAnswer, out: &mut [u8], at: usize) -> usize
-    ensures { Wrote out.old at (command_answer_words answer) out.new result }
+fn command_answer(answer: CommandAnswer) -> &'static [u8]
+    ensures { result.now ≡ command_answer_words answer }
 {
     match answer {
-        CommandAnswer::Taken => print::bytes(b"taken", out, at),
-        CommandAnswer::Unknown => print::bytes(b"unknown", out, at),
-        CommandAnswer::OutOfRange => print::bytes(b"out of range", out, at),
+        CommandAnswer::Taken => b"taken",
+        CommandAnswer::Unknown => b"unknown",
+        CommandAnswer::OutOfRange => b"out of range",
     }
 }
 
-fn refused(number: u8, out: &mut [u8], at: usize) -> usize
-    ensures { Wrote out.old at (refused_words number) out.new result }
+fn refused(refusal: Refusal, out: &mut Printout)
+    ensures { Prints out.old (refused_words (number refusal)) out.new }
 {
-    let next = print::bytes(b"refused ", out, at);
-    print::decimal(number as u64, out, next)
+    out.bytes(b"refused ");
+    out.decimal(u64::from(refusal.number()));
 }
 
-pub fn answer(answer: Answer, out: &mut [u8], at: usize) -> usize
-    ensures { Wrote out.old at (answer_words answer) out.new result }
+// What the bus gives back for an event that is accepted.
+#[tactic(auto, unfolding(crate::specs::Words::answer_words))]
+fn accepted(answer: Answer, out: &mut Printout)
+    ensures { Prints out.old (answer_words (given answer)) out.new }
 {
     match answer {
-        Answer::Refused(number) => refused(number, out, at),
-        Answer::Nothing => print::bytes(b"-", out, at),
-        Answer::Acknowledged => print::bytes(b"acknowledged", out, at),
-        Answer::NotAcknowledged => print::bytes(b"not acknowledged", out, at),
-        Answer::Command(command) => command_answer(command, out, at),
-        Answer::Read(byte) => print::decimal(byte as u64, out, at),
+        Answer::Nothing => out.bytes(b"-"),
+        Answer::Acknowledged => out.bytes(b"acknowledged"),
+        Answer::NotAcknowledged => out.bytes(b"not acknowledged"),
+        Answer::Command(command) => out.bytes(command_answer(command)),
+        Answer::Read(byte) => out.decimal(u64::from(byte)),
+    }
+}
+
+#[tactic(auto, unfolding(crate::specs::Words::answer_words))]
+pub fn answer(answer: Result<Answer, Refusal>, out: &mut Printout)
+    ensures { Prints out.old (answer_words (told answer)) out.new }
+{
+    match answer {
+        Ok(answer) => accepted(answer, out),
+        Err(refusal) => refused(refusal, out),
     }
 }
 
 // The whole line. Chip and count are those before the event, and its number follows the count; it may be past the largest u64.
-pub fn line(event: u16, chip: Chip, count: u64, given: Answer, out: &mut [u8], at: usize) -> usize
-    ensures { Wrote out.old at (event_line event chip count given) out.new result }
+pub fn line(event: u16, chip: Chip, count: u64, given: Result<Answer, Refusal>, out: &mut Printout)
+    ensures { Prints out.old (event_line event chip count (told given)) out.new }
 {
-    let number = print::decimal_plus(count, 1, out, at);
-    let after_number = print::byte(TAB, out, number);
-    let after_event = print::field(event as u64, TAB, out, after_number);
-    let words = what(event, chip, out, after_event);
-    let after_words = print::byte(TAB, out, words);
-    let end = answer(given, out, after_words);
-    print::byte(NEWLINE, out, end)
+    out.decimal_plus(count, 1);
+    out.byte(b'\t');
+    out.field(u64::from(event), b'\t');
+    what(event, chip, out);
+    out.byte(b'\t');
+    answer(given, out);
+    out.byte(b'\n');
 }

@@ -1,7 +1,11 @@
-use native.Mathlib.Omega.{arith}
-use Rattle.event_words.proofs.CodeWays.{line_wrote}
+use Rattle.print.proofs.Writing.{prints_then, prints-same}
+use Rattle.event_words.proofs.CodeWays.{line-fields}
 use Rattle.event_words.proofs.line.Goals as goal
 
 pub returns : goal.returns
 returns c =
-    line_wrote _ _ _ _ (omega (arith, c.well_formed.1.1.1.1.0)) c.decimal_plus-number.ensures c.byte-after_number.ensures c.field-after_event.ensures c.what-words.ensures c.byte-after_words.ensures c.answer-end.ensures c.byte.ensures
+    prints-same (line-fields _ _ _ _)
+    (prints_then c.decimal_plus.ensures
+    (prints_then c.byte.ensures
+    (prints_then (rw c.from.ensures at c.field.ensures)
+    (prints_then c.what.ensures (prints_then c.byte-2.ensures (prints_then c.answer.ensures c.byte-3.ensures))))))

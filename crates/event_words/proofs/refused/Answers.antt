@@ -1,7 +1,6 @@
-use native.Mathlib.Omega.{arith}
-use Rattle.print.proofs.Writing.{wrote_then}
+use Rattle.print.proofs.Writing.{prints_then}
+use borrow.Author.Rules.{rules}
 use Rattle.event_words.proofs.refused.Goals as goal
 
 pub returns : goal.returns
-returns c =
-    wrote_then (omega (arith, c.well_formed.1.0)) c.bytes-next.ensures c.decimal.ensures
+returns c = prints_then c.bytes.ensures (search rules)

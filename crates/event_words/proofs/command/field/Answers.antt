@@ -1,7 +1,9 @@
-use native.Mathlib.Omega.{arith}
-use Rattle.event_words.proofs.CodeWays.{field-wrote}
+use Rattle.print.proofs.Writing.{prints_then, prints-same}
+use Rattle.event_words.proofs.CodeWays.{name-found}
+use borrow.Author.Rules.{rules}
 use Rattle.event_words.proofs.command.field.Goals as goal
 
 pub returns : goal.returns
 returns c =
-    field-wrote _ _ (omega (arith, c.well_formed.1.1.0)) c.all-all.ensures c.piece.ensures c.byte-before.ensures c.bytes-name.ensures c.byte-after.ensures c.decimal.ensures
+    prints_then c.byte.ensures
+    (prints_then (prints-same (name-found _ _ _ c.all-all.ensures c.piece.ensures) c.bytes.ensures) (prints_then c.byte-2.ensures (search rules)))

@@ -3,8 +3,8 @@ use Rattle.instruction_table.proofs.RowByte.{low-bound, width-bound}
 use Rattle.event_words.proofs.CodeWays.{some-numbers, value-at}
 use Rattle.event_words.proofs.command.value.Goals as goal
 
-pub overflow_shr-high : goal.overflow_shr-high
-overflow_shr-high c = omega (arith, low-bound c.args.part, c.part_low.ensures)
+pub overflow_shr-result : goal.overflow_shr-result
+overflow_shr-result c = omega (arith, low-bound c.args.part, c.part_low.ensures)
 
 pub overflow_shl-result : goal.overflow_shl-result
 overflow_shl-result c = omega (arith, width-bound c.args.part, c.part_width.ensures)
