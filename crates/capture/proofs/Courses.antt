@@ -9,8 +9,7 @@ use native.Mathlib.Omega.{arith}
 use lib.Dec.{eqb}
 use lib.ListN.{length}
 use Rattle.registers.specs.State.{State}
-use Rattle.text.specs.declared.Number as numbers
-use Rattle.text.specs.declared.Number.TheVariants.{Value, Malformed}
+use Rattle.std.specs.Prelude.{Option, Some, None}
 use Rattle.text.specs.Decimal.{number_of, decimal}
 use Rattle.text.specs.Text.{split, join, on_first}
 use Rattle.text.proofs.Joining.{split-append, Free, join-split}
@@ -64,7 +63,7 @@ module _ (e : ℕ) (n : ℕ) (s : State) (small : e < 1000) (h : refusal_of e s 
       stops (e ∷ es) rest end (small, sm) (rw t) (one_more es end q) st (er ∙ rw more)
 
   -- what the lines behind it come to
-  played-next : (l : EventsRead) → play_from n (with_event (Value e) l) s ≡ play_from (n + 1) l (step_of e s).state
+  played-next : (l : EventsRead) → play_from n (with_event (Some e) l) s ≡ play_from (n + 1) l (step_of e s).state
   played-next l =
       let o : Outcome = run_of l.events (step_of e s).state in
       ap (λ (r : Outcome). replay_by (more_done n r) l.all-good) (run-next e l.events s h)
@@ -83,7 +82,7 @@ course p (q ∷ ps) f n s fit = go (number_of p) refl (λ k t h. course q ps f.1
     event :
         (e : ℕ) → Printed p e → (k : ℕ) → refusal_of e s ≡ k
         → (refusal_of e s ≡ 0 → Course (n + 1) (step_of e s).state (join newline (q ∷ ps)) (play_from (n + 1) (events_of (q ∷ ps)) (step_of e s).state))
-        → Course n s (p ++ newline ∷ join newline (q ∷ ps)) (play_from n (with_event (Value e) (events_of (q ∷ ps))) s)
+        → Course n s (p ++ newline ∷ join newline (q ∷ ps)) (play_from n (with_event (Some e) (events_of (q ∷ ps))) s)
     event e is zero h rest =
         rw (is.in-decimal, played-next e n s is.small h (events_of (q ∷ ps))) (event-before e n s is.small h _ _ (rest h))
     event e is (suc k) h rest =
@@ -92,11 +91,11 @@ course p (q ∷ ps) f n s fit = go (number_of p) refl (λ k t h. course q ps f.1
         (rw (run-stopped e (events_of (q ∷ ps)).events s k h, add-zero))
 
     go :
-        (v : numbers.Number) → number_of p ≡ v
+        (v : Option ℕ) → number_of p ≡ v
         → ((k : ℕ) (t : State) → Fit t → Course k t (join newline (q ∷ ps)) (play_from k (events_of (q ∷ ps)) t))
         → Course n s (p ++ newline ∷ join newline (q ∷ ps)) (play_from n (with_event v (events_of (q ∷ ps))) s)
-    go Malformed e rest = stops-here n s _ _ fit (no_number p (join newline (q ∷ ps)) f.0 e refl) (none_left n false s fit)
-    go (Value v) e rest = event v (printed p v e) (refusal_of v s) refl (λ h. rest (n + 1) (step_of v s).state (stays_fit v s fit))
+    go None e rest = stops-here n s _ _ fit (no_number p (join newline (q ∷ ps)) f.0 e refl) (none_left n false s fit)
+    go (Some v) e rest = event v (printed p v e) (refusal_of v s) refl (λ h. rest (n + 1) (step_of v s).state (stays_fit v s fit))
 
 body-course : (body : List ℕ) (s : State) → Fit s → Course 0 s body (play_from 0 (events_of (split newline body)) s)
 body-course body s fit = go (split newline body) (split-some newline body) (split-free newline body) (join-split newline body)
@@ -159,13 +158,13 @@ module _ (m w : List ℕ) (lent : Lent m w) where
   pub ended : (text : List ℕ) → Ended text m w
   ended text = go (split newline text) refl
     where
-      by_pins : (p q : List ℕ) (ps : List (List ℕ)) → split newline text ≡ p ∷ q ∷ ps → (v : numbers.Number) → pins_of p ≡ v → Ended text m w
-      by_pins p q ps e Malformed v =
+      by_pins : (p q : List ℕ) (ps : List (List ℕ)) → split newline text ≡ p ∷ q ∷ ps → (v : Option ℕ) → pins_of p ≡ v → Ended text m w
+      by_pins p q ps e None v =
           refused-first
           (no-first-line text p (q ∷ ps) e
-          (λ pins two same l. let z : Malformed ≡ Value pins = sym v ∙ rw same (first_read pins two) in let y : ◌≡◌ {A = ℕ} 0 1 = cc z in omega arith))
+          (λ pins two same l. let z : None ≡ Some pins = sym v ∙ rw same (first_read pins two) in let y : ◌≡◌ {A = ℕ} 0 1 = cc z in omega arith))
           (replay-lent text m w lent ∙ rw (e, v))
-      by_pins p q ps e (Value pins) v =
+      by_pins p q ps e (Some pins) v =
           let is = first-written p pins v in
           let text-is : text ≡ first_line pins ++ newline ∷ join newline (q ∷ ps) = sym (join-split newline text) ∙ rw (e, is.0) in
           subst (λ (t : List ℕ). Ended t m w) (sym text-is) (with-pins pins (join newline (q ∷ ps)) is.1)

@@ -7,7 +7,7 @@ use native.Mathlib.Omega.{arith}
 use lib.Dec.{eqb}
 use lib.ListN.{length, take, drop}
 use Rattle.registers.specs.State.{State}
-use Rattle.text.specs.declared.Number.TheVariants.{Value}
+use Rattle.std.specs.Prelude.{Some}
 use Rattle.text.specs.Decimal.{number_of, decimal}
 use Rattle.text.specs.Text.{count_of}
 use Rattle.text.proofs.Printing.{read_back, decimal-free}
@@ -45,7 +45,7 @@ joined (x ∷ p) rest l s f = go (eqb x newline) f (λ g. joined p rest (with_by
     go true f h = absurd (omega arith)
     go false f h = h f
 
-number-line : (p : List ℕ) (e : ℕ) → number_of p ≡ Value e → event_line p ≡ Number e
+number-line : (p : List ℕ) (e : ℕ) → number_of p ≡ Some e → event_line p ≡ Number e
 unfolding number_of
 number-line [] e h = absurd (let z : ◌≡◌ {A = ℕ} 0 1 = cc h in omega arith)
 number-line (x ∷ p) e h = ap of_number h

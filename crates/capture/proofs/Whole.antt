@@ -11,8 +11,7 @@ use Rattle.std.specs.Prelude.{Ok}
 use lib.ListN.{length, get_or}
 use lib.Seq.{append_snoc}
 use Rattle.registers.specs.State.{State}
-use Rattle.text.specs.declared.Number as numbers
-use Rattle.text.specs.declared.Number.TheVariants.{Value, Malformed}
+use Rattle.std.specs.Prelude.{Option, Some, None}
 use Rattle.text.specs.Decimal.{number_of}
 use Rattle.text.specs.Text.{split, on_first}
 use Rattle.text.proofs.Splitting.{split-some}
@@ -92,7 +91,7 @@ module _ (bs : List ℕ) (rest : EventsRead)
       ∙ ap (λ (n : ℕ). ended_by r.refusal rest.all-good n r.state) (omega (arith, counted))
   outcome-ended o fit' counted (suc k) q = bad-line bs o.state ∙ rw (q, counted)
 
-  event-ended : (e : ℕ) → result_of (bytes_fed bs (played (run_of (e ∷ []) s))) ≡ play_from s.count (with_event (Value e) rest) s
+  event-ended : (e : ℕ) → result_of (bytes_fed bs (played (run_of (e ∷ []) s))) ≡ play_from s.count (with_event (Some e) rest) s
   event-ended e =
       outcome-ended (run_of (e ∷ []) s) (run-stays-fit (e ∷ []) s fit) (run-counts (e ∷ []) s) (run_of (e ∷ []) s).refusal refl
       ∙ rw (run-then (e ∷ []) rest.events s)
@@ -102,9 +101,9 @@ module _ (bs : List ℕ) (rest : EventsRead)
   line-ended [] = bad-line bs s ∙ rw (none_left s.count false s fit)
   line-ended (x ∷ p) = go (number_of (x ∷ p))
     where
-      go : (v : numbers.Number) → result_of (bytes_fed bs (ended_line (of_number v) s)) ≡ play_from s.count (with_event v rest) s
-      go Malformed = bad-line bs s ∙ rw (none_left s.count false s fit)
-      go (Value e) = event-ended e
+      go : (v : Option ℕ) → result_of (bytes_fed bs (ended_line (of_number v) s)) ≡ play_from s.count (with_event v rest) s
+      go None = bad-line bs s ∙ rw (none_left s.count false s fit)
+      go (Some e) = event-ended e
 
 -- no newline follows
 line-left : (p : List ℕ) (s : State) → Fit s → result_of (playing (event_line p) s) ≡ play_from s.count (events_of ((p ++ []) ∷ [])) s
@@ -112,9 +111,9 @@ unfolding meaning
 line-left [] s fit = rw (none_left s.count true s fit)
 line-left (x ∷ p) s fit = go (number_of (x ∷ p)) ∙ rw (none_left s.count false s fit)
   where
-    go : (v : numbers.Number) → result_of (playing (of_number v) s) ≡ refused_at (s.count + 2) s
-    go Malformed = refl
-    go (Value e) = refl
+    go : (v : Option ℕ) → result_of (playing (of_number v) s) ≡ refused_at (s.count + 2) s
+    go None = refl
+    go (Some e) = refl
 
 events-fed :
     (xs p : List ℕ) (s : State) → Fit s

@@ -9,8 +9,7 @@ use borrow.Author.Tests.{le-leb, leb-true}
 use lib.Dec.{leb}
 use lib.ListN.{length, take, drop, take-append-drop}
 use Rattle.registers.specs.State.{State}
-use Rattle.text.specs.declared.Number as numbers
-use Rattle.text.specs.declared.Number.TheVariants.{Value, Malformed}
+use Rattle.std.specs.Prelude.{Option, Some, None}
 use Rattle.text.specs.Decimal.{number_of, decimal}
 use Rattle.text.specs.Text.{count_of, split, same_bytes}
 use Rattle.text.proofs.Finding.{same-equal}
@@ -33,24 +32,24 @@ use Rattle.capture.proofs.Whole.{play_from, none_left}
 pub first-free : (pins : ℕ) → count_of newline (first_line pins) ≡ 0
 first-free pins = decimal-free newline pins (omega arith)
 
-pub first_read : (pins : ℕ) → pins ≤ 3 → pins_of (first_line pins) ≡ Value pins
+pub first_read : (pins : ℕ) → pins ≤ 3 → pins_of (first_line pins) ≡ Some pins
 unfolding pins_of
 first_read pins h = rw (read_back pins (omega arith), le-leb pins 3 h)
 
 -- and no other line is read as pins
-as-pins : (v : numbers.Number) (k : ℕ) → as_pins v ≡ Value k → (v ≡ Value k) × (k ≤ 3)
-as-pins Malformed k e = absurd (let z : ◌≡◌ {A = ℕ} 0 1 = cc in omega arith)
-as-pins (Value n) k e = go (leb n 3) refl e
+as-pins : (v : Option ℕ) (k : ℕ) → as_pins v ≡ Some k → (v ≡ Some k) × (k ≤ 3)
+as-pins None k e = absurd (let z : ◌≡◌ {A = ℕ} 0 1 = cc in omega arith)
+as-pins (Some n) k e = go (leb n 3) refl e
   where
-    go : (t : Bool) → leb n 3 ≡ t → cond t (Value n) Malformed ≡ Value k → (Value n ≡ Value k) × (k ≤ 3)
+    go : (t : Bool) → leb n 3 ≡ t → cond t (Some n) None ≡ Some k → (Some n ≡ Some k) × (k ≤ 3)
     go true l e = let same : n ≡ k = cc e in (e, omega (arith, leb-true n 3 l))
     go false l e = absurd (let z : ◌≡◌ {A = ℕ} 0 1 = cc e in omega arith)
 
-pub first-written : (p : List ℕ) (k : ℕ) → pins_of p ≡ Value k → (p ≡ first_line k) × (k ≤ 3)
+pub first-written : (p : List ℕ) (k : ℕ) → pins_of p ≡ Some k → (p ≡ first_line k) × (k ≤ 3)
 unfolding pins_of
 first-written p k e = go (same_bytes (take 5 p) word) refl e
   where
-    go : (t : Bool) → same_bytes (take 5 p) word ≡ t → cond t (as_pins (number_of (drop 5 p))) Malformed ≡ Value k → (p ≡ first_line k) × (k ≤ 3)
+    go : (t : Bool) → same_bytes (take 5 p) word ≡ t → cond t (as_pins (number_of (drop 5 p))) None ≡ Some k → (p ≡ first_line k) × (k ≤ 3)
     go true same e =
         let number = as-pins (number_of (drop 5 p)) k e in
         (sym (take-append-drop 5 p) ∙ rw (same-equal (take 5 p) word same, (printed (drop 5 p) k number.0).in-decimal), number.1)
@@ -70,14 +69,14 @@ events-line p s f = rw (split-append newline p s f) (go (split newline s) (split
 abbrev pub ahead : List ℕ → EventsRead → EventsRead
 ahead es l = events_read (es ++ l.events) l.all-good
 
-pub events-event : (e : ℕ) (s : List ℕ) → e < 1000 → events_of (split newline (decimal e ++ newline ∷ s)) ≡ with_event (Value e) (events_of (split newline s))
+pub events-event : (e : ℕ) (s : List ℕ) → e < 1000 → events_of (split newline (decimal e ++ newline ∷ s)) ≡ with_event (Some e) (events_of (split newline s))
 events-event e s h =
-    events-line (decimal e) s (decimal-free newline e (omega arith)) ∙ ap (λ (v : numbers.Number). with_event v (events_of (split newline s))) (read_back e h)
+    events-line (decimal e) s (decimal-free newline e (omega arith)) ∙ ap (λ (v : Option ℕ). with_event v (events_of (split newline s))) (read_back e h)
 
 pub events-lines : (es rest : List ℕ) → Small es → events_of (split newline (event_lines es rest)) ≡ ahead es (events_of (split newline rest))
 events-lines [] rest h = refl
 events-lines (e ∷ es) rest h =
-    events-event e (event_lines es rest) h.0 ∙ ap (λ (l : EventsRead). with_event (Value e) l) (events-lines es rest h.1)
+    events-event e (event_lines es rest) h.0 ∙ ap (λ (l : EventsRead). with_event (Some e) l) (events-lines es rest h.1)
 
 -- ---- the whole text
 
@@ -100,7 +99,7 @@ module _ (m w : List ℕ) (lent : Lent m w) where
       ≡ replay_by (run_of (events_of (split newline s)).events (started pins m w)) (events_of (split newline s)).all-good
   replay-pins pins s h =
       replay-first (first_line pins) s (first-free pins)
-      ∙ ap (λ (v : numbers.Number). with_pins v (events_of (split newline s)) m w) (first_read pins h)
+      ∙ ap (λ (v : Option ℕ). with_pins v (events_of (split newline s)) m w) (first_read pins h)
 
   replay-written :
       (pins : ℕ) (es rest : List ℕ) → pins ≤ 3 → Small es
@@ -138,10 +137,10 @@ stop-read rest s fit (unended f some) n = rw (split-join newline rest [] (f, tt)
     go (x ∷ p) none = none_left n false s fit
 stop-read rest s fit (no_number line more f e t) n =
     rw (t, events-line line more f)
-    (ap (λ (v : numbers.Number). play_from n (with_event v (events_of (split newline more))) s) e ∙ none_left n false s fit)
+    (ap (λ (v : Option ℕ). play_from n (with_event v (events_of (split newline more))) s) e ∙ none_left n false s fit)
 stop-read rest s fit (refused_event e more small r t) n = rw (t, events-event e more small) (go (refusal_of e s) refl)
   where
-    go : (k : ℕ) → refusal_of e s ≡ k → play_from n (with_event (Value e) (events_of (split newline more))) s ≡ refused_at (n + 2) s
+    go : (k : ℕ) → refusal_of e s ≡ k → play_from n (with_event (Some e) (events_of (split newline more))) s ≡ refused_at (n + 2) s
     go zero q = absurd (r q)
     go (suc k) q = rw (run-stopped e (events_of (split newline more)).events s k q, add-zero)
 

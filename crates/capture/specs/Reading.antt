@@ -1,7 +1,5 @@
 -- What a capture says after its first line (document 01, "Replay listing"): one event number a line. And how a capture is written.
-use Rattle.std.specs.Prelude.{Bool, true, false, List, [], ◌∷◌, ◌++◌, ℕ}
-use Rattle.text.specs.declared.Number.{Number}
-use Rattle.text.specs.declared.Number.TheVariants.{Value, Malformed}
+use Rattle.std.specs.Prelude.{Bool, true, false, List, [], ◌∷◌, ◌++◌, ℕ, Option, Some, None}
 use Rattle.text.specs.Decimal.{number_of, decimal}
 pub use Rattle.capture_lines.specs.Events.{event_lines}
 use Rattle.capture_lines.specs.Line.{newline, word}
@@ -16,9 +14,9 @@ pub record EventsRead : Type 0 where
 abbrev pub events_read : List ℕ → Bool → EventsRead
 events_read es t = record { events = es; all-good = t }
 
-abbrev pub with_event : Number → EventsRead → EventsRead
-with_event Malformed rest = events_read [] false
-with_event (Value e) rest = events_read (e ∷ rest.events) rest.all-good
+abbrev pub with_event : Option ℕ → EventsRead → EventsRead
+with_event None rest = events_read [] false
+with_event (Some e) rest = events_read (e ∷ rest.events) rest.all-good
 
 -- after the last newline there is nothing
 abbrev pub last_piece : List ℕ → EventsRead

@@ -1,10 +1,8 @@
 -- A whole capture played on a chip after reset, from a counting start. The two memories are lent; a capture starts with 1,717 zeros in each.
-use Rattle.std.specs.Prelude.{Bool, true, false, List, [], ◌∷◌, ℕ, zero, suc, ◌+◌, length}
+use Rattle.std.specs.Prelude.{Bool, true, false, List, [], ◌∷◌, ℕ, zero, suc, ◌+◌, length, Option, Some, None}
 use Rattle.registers.specs.Record.{reset_chip, with_pixels}
 use Rattle.registers.specs.Refusals.{lengths_refusal}
 use Rattle.registers.specs.State.{State, state}
-use Rattle.text.specs.declared.Number.{Number}
-use Rattle.text.specs.declared.Number.TheVariants.{Value, Malformed}
 use Rattle.text.specs.Text.{split}
 use Rattle.chip.specs.Promised.{Outcome, run_of, counts_of}
 use Rattle.capture_lines.specs.Line.{newline, pins_of}
@@ -37,9 +35,9 @@ abbrev pub replay_by : Outcome → Bool → Replay
 replay_by o all-good = ended_by o.refusal all-good o.done o.state
 
 -- a bad first line says nothing of the pins
-abbrev pub with_pins : Number → EventsRead → List ℕ → List ℕ → Replay
-with_pins Malformed l m w = refused_at 1 (started 0 m w)
-with_pins (Value pins) l m w = replay_by (run_of l.events (started pins m w)) l.all-good
+abbrev pub with_pins : Option ℕ → EventsRead → List ℕ → List ℕ → Replay
+with_pins None l m w = refused_at 1 (started 0 m w)
+with_pins (Some pins) l m w = replay_by (run_of l.events (started pins m w)) l.all-good
 
 abbrev pub replay_lines : List (List ℕ) → List ℕ → List ℕ → Replay
 replay_lines [] m w = refused_at 1 (started 0 m w)

@@ -1,7 +1,6 @@
 -- Which captures are replayed, and where the others are refused. proofs/Laws.antt holds `replay_of` against it.
-use Rattle.std.specs.Prelude.{true, false, List, [], ◌∷◌, ◌++◌, ◌≡◌, ℕ, ◌<◌, ◌≤◌, length, get_or}
+use Rattle.std.specs.Prelude.{true, false, List, [], ◌∷◌, ◌++◌, ◌≡◌, ℕ, ◌<◌, ◌≤◌, length, get_or, None}
 use Rattle.registers.specs.State.{State, places}
-use Rattle.text.specs.declared.Number.TheVariants.{Malformed}
 use Rattle.text.specs.Decimal.{number_of, decimal}
 use Rattle.text.specs.Text.{count_of}
 use Rattle.chip.specs.Promised.{Fit, outcome, run_of, refusal_of}
@@ -60,7 +59,7 @@ pub data Stops (rest : List ℕ) (s : State) : Type 0 where
   -- it has no newline
   unended : count_of newline rest ≡ 0 → (rest ≡ [] → ⊥) → Stops rest s
   -- it is no number
-  no_number : (line more : List ℕ) → count_of newline line ≡ 0 → number_of line ≡ Malformed → rest ≡ line ++ newline ∷ more → Stops rest s
+  no_number : (line more : List ℕ) → count_of newline line ≡ 0 → number_of line ≡ None → rest ≡ line ++ newline ∷ more → Stops rest s
   -- it is an event that the chip refuses
   refused_event : (e : ℕ) (more : List ℕ) → e < 1000 → (refusal_of e s ≡ 0 → ⊥) → rest ≡ decimal e ++ newline ∷ more → Stops rest s
 

@@ -6,20 +6,20 @@ use Prim.Native.Nat.{ℕ, ◌+◌, ◌*◌, ◌<◌, ◌≤◌}
 use native.Mathlib.Omega.{arith}
 use borrow.Author.Tests.{lt-ltb, le-ltb, leb-true, leb-false}
 use lib.Dec.{T, leb, ltb}
-use Rattle.text.specs.declared.Number.TheVariants.{Value, Malformed}
+use Rattle.std.specs.Prelude.{Some, None}
 use Rattle.text.specs.Decimal.{is_digit, is_leading, digit_value, one_digit, two_digits, three_digits, number_of}
 use Rattle.text.proofs.Numbers.{digit-bounds, leading-bounds, bounds-leading, leading-digit}
 use Rattle.capture_lines.specs.declared.LineSoFar.TheVariants.{Number, Bad}
 use Rattle.capture_lines.specs.SoFar.{with_byte, on_number, of_number, event_line}
 
-of_test : (t : Bool) (n : ℕ) → cond t (Number n) Bad ≡ of_number (cond t (Value n) Malformed)
+of_test : (t : Bool) (n : ℕ) → cond t (Number n) Bad ≡ of_number (cond t (Some n) None)
 of_test true n = refl
 of_test false n = refl
 
 -- ---- one digit more
 
 -- behind a number of one or two digits that begins with no zero
-taken : (n b k : ℕ) → 0 < n → n < 100 → n * 10 + digit_value b ≡ k → on_number n b ≡ of_number (cond (is_digit b) (Value k) Malformed)
+taken : (n b k : ℕ) → 0 < n → n < 100 → n * 10 + digit_value b ≡ k → on_number n b ≡ of_number (cond (is_digit b) (Some k) None)
 taken n b k l h e = rw (lt-ltb 0 n l, lt-ltb n 100 h, e) (of_test (is_digit b) k)
 
 -- behind a zero, and behind three digits
@@ -39,8 +39,8 @@ second a b = go (is_digit a) refl (is_leading a) refl
   where
     go :
         (t : Bool) → is_digit a ≡ t → (l : Bool) → is_leading a ≡ l
-        → with_byte (of_number (cond t (Value (digit_value a)) Malformed)) b
-        ≡ of_number (cond (l && is_digit b) (Value (digit_value a * 10 + digit_value b)) Malformed)
+        → with_byte (of_number (cond t (Some (digit_value a)) None)) b
+        ≡ of_number (cond (l && is_digit b) (Some (digit_value a * 10 + digit_value b)) None)
     go false et true el = absurd (subst T (sym (leading-digit a el) ∙ et) tt)
     go false et false el = refl
     go true et true el =
@@ -58,8 +58,8 @@ third a b c = go (is_leading a) refl (is_digit b) refl
   where
     go :
         (l : Bool) → is_leading a ≡ l → (t : Bool) → is_digit b ≡ t
-        → with_byte (of_number (cond (l && t) (Value (digit_value a * 10 + digit_value b)) Malformed)) c
-        ≡ of_number (cond (l && t && is_digit c) (Value (digit_value a * 100 + digit_value b * 10 + digit_value c)) Malformed)
+        → with_byte (of_number (cond (l && t) (Some (digit_value a * 10 + digit_value b)) None)) c
+        ≡ of_number (cond (l && t && is_digit c) (Some (digit_value a * 100 + digit_value b * 10 + digit_value c)) None)
     go false el t et = refl
     go true el false et = refl
     go true el true et =
@@ -73,7 +73,7 @@ fourth a b c d = go (is_leading a) refl (is_digit b) (is_digit c)
   where
     go :
         (l : Bool) → is_leading a ≡ l → (s t : Bool)
-        → with_byte (of_number (cond (l && s && t) (Value (digit_value a * 100 + digit_value b * 10 + digit_value c)) Malformed)) d ≡ Bad
+        → with_byte (of_number (cond (l && s && t) (Some (digit_value a * 100 + digit_value b * 10 + digit_value c)) None)) d ≡ Bad
     go false el s t = refl
     go true el false t = refl
     go true el true false = refl

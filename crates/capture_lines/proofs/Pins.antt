@@ -7,7 +7,7 @@ use native.Mathlib.Omega.{arith}
 use borrow.Author.Tests.{lt-ltb, le-leb, lt-leb, leb-true, leb-false}
 use lib.Dec.{eqb, leb}
 use lib.ListN.{length, get_or, take, drop}
-use Rattle.text.specs.declared.Number.TheVariants.{Value, Malformed}
+use Rattle.std.specs.Prelude.{Some, None}
 use Rattle.text.specs.Decimal.{is_digit, is_leading, digit_value, one_digit, two_digits, three_digits, number_of}
 use Rattle.text.specs.Text.{same_bytes}
 use Rattle.text.proofs.Finding.{drop-next}
@@ -29,27 +29,27 @@ stays-bad (b ∷ p) = stays-bad p
 -- ---- the pins
 
 -- two digits or three are no pins
-long : (t : Bool) (n : ℕ) → 3 < n → as_pins (cond t (Value n) Malformed) ≡ Malformed
+long : (t : Bool) (n : ℕ) → 3 < n → as_pins (cond t (Some n) None) ≡ None
 long true n h = rw (lt-leb n 3 h)
 long false n h = refl
 
-two-long : (a b : ℕ) → as_pins (two_digits a b) ≡ Malformed
+two-long : (a b : ℕ) → as_pins (two_digits a b) ≡ None
 two-long a b = go (is_leading a) refl
   where
-    go : (l : Bool) → is_leading a ≡ l → as_pins (cond (l && is_digit b) (Value (digit_value a * 10 + digit_value b)) Malformed) ≡ Malformed
+    go : (l : Bool) → is_leading a ≡ l → as_pins (cond (l && is_digit b) (Some (digit_value a * 10 + digit_value b)) None) ≡ None
     go false e = refl
     go true e = let bounds = leading-bounds a e in long (is_digit b) _ (omega arith)
 
-three-long : (a b c : ℕ) → as_pins (three_digits a b c) ≡ Malformed
+three-long : (a b c : ℕ) → as_pins (three_digits a b c) ≡ None
 three-long a b c = go (is_leading a) refl
   where
     go :
         (l : Bool) → is_leading a ≡ l
-        → as_pins (cond (l && is_digit b && is_digit c) (Value (digit_value a * 100 + digit_value b * 10 + digit_value c)) Malformed) ≡ Malformed
+        → as_pins (cond (l && is_digit b && is_digit c) (Some (digit_value a * 100 + digit_value b * 10 + digit_value c)) None) ≡ None
     go false e = refl
     go true e = let bounds = leading-bounds a e in long (is_digit b && is_digit c) _ (omega arith)
 
-longer : (a b : ℕ) (p : List ℕ) → as_pins (number_of (a ∷ b ∷ p)) ≡ Malformed
+longer : (a b : ℕ) (p : List ℕ) → as_pins (number_of (a ∷ b ∷ p)) ≡ None
 unfolding number_of
 longer a b [] = two-long a b
 longer a b (c ∷ []) = three-long a b c
@@ -61,7 +61,7 @@ one d = go (leb 48 d) refl (leb d 51) refl (leb d 57) refl
   where
     go :
         (l : Bool) → leb 48 d ≡ l → (t : Bool) → leb d 51 ≡ t → (u : Bool) → leb d 57 ≡ u
-        → pins_in (cond (l && t) (Pins (digit_value d)) BadFirst) ≡ as_pins (cond (l && u) (Value (digit_value d)) Malformed)
+        → pins_in (cond (l && t) (Pins (digit_value d)) BadFirst) ≡ as_pins (cond (l && u) (Some (digit_value d)) None)
     go false el t et u eu = refl
     go true el true et true eu = rw (le-leb (digit_value d) 3 (omega (arith, leb-true d 51 et)))
     go true el true et false eu = absurd (omega (arith, leb-true d 51 et, leb-false d 57 eu))
@@ -74,7 +74,7 @@ digits [] = refl
 digits (d ∷ []) = one d
 digits (d ∷ e ∷ p) = go (is_pins d) ∙ sym (longer d e p)
   where
-    go : (t : Bool) → pins_in (with_bytes (with_byte (cond t (Pins (digit_value d)) BadFirst) e) p) ≡ Malformed
+    go : (t : Bool) → pins_in (with_bytes (with_byte (cond t (Pins (digit_value d)) BadFirst) e) p) ≡ None
     go true = ap pins_in (stays-bad p)
     go false = ap pins_in (stays-bad p)
 
@@ -85,7 +85,7 @@ unfolding with_byte
 awaited k b x h e = rw (lt-ltb k 5 h, e)
 
 word-left : (w : List ℕ) (k : ℕ) → drop k word ≡ w → k + length w ≡ 5 → (p : List ℕ)
-    → pins_in (with_bytes (First k) p) ≡ cond (same_bytes (take (length w) p) w) (as_pins (number_of (drop (length w) p))) Malformed
+    → pins_in (with_bytes (First k) p) ≡ cond (same_bytes (take (length w) p) w) (as_pins (number_of (drop (length w) p))) None
 word-left [] k e l p = let five : k ≡ 5 = omega arith in rw five (digits p)
 word-left (x ∷ w) k e l [] = refl
 word-left (x ∷ w) k e l (b ∷ p) = go (eqb b x) refl (word-left w (k + 1) behind (omega arith) p)
@@ -101,9 +101,9 @@ word-left (x ∷ w) k e l (b ∷ p) = go (eqb b x) refl (word-left w (k + 1) beh
 
     go :
         (t : Bool) → eqb b x ≡ t
-        → pins_in (with_bytes (First (k + 1)) p) ≡ cond (same_bytes (take (length w) p) w) (as_pins (number_of (drop (length w) p))) Malformed
+        → pins_in (with_bytes (First (k + 1)) p) ≡ cond (same_bytes (take (length w) p) w) (as_pins (number_of (drop (length w) p))) None
         → pins_in (with_bytes (with_byte (First k) b) p)
-        ≡ cond (t && same_bytes (take (length w) p) w) (as_pins (number_of (drop (length w) p))) Malformed
+        ≡ cond (t && same_bytes (take (length w) p) w) (as_pins (number_of (drop (length w) p))) None
     go true t rest = rw (awaited k b x (omega arith) next, t) rest
     go false t rest = rw (awaited k b x (omega arith) next, t) (ap pins_in (stays-bad p))
 

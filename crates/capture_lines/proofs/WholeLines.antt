@@ -11,8 +11,6 @@ use borrow.Author.Tests.{eq-eqb, ne_eqb, eqb-true, lt-ltb, le-ltb}
 use lib.Dec.{T, eqb}
 use lib.ListN.{length, get_or, take, drop, set, length-set, take-append-drop}
 use lib.Seq.{take-suc-set, length-take-le, take-append_seam, append_snoc, drop-set-lt, drop-drop}
-use Rattle.text.specs.declared.Number as numbers
-use Rattle.text.specs.declared.Number.TheVariants.{Value, Malformed}
 use Rattle.text.specs.Decimal.{is_digit, is_leading, digit_value, one_digit, two_digits, three_digits, number_of, decimal}
 use Rattle.text.proofs.Finding.{drop-next}
 use Rattle.text.proofs.Numbers.{and_both, digit-bounds, bounds-digit, leading-bounds}
@@ -40,7 +38,7 @@ use Rattle.capture_lines.specs.Events.{
 
 -- ---- a line by what its bytes say
 
-pub line_read : (t : Bool) (n e k : ℕ) → t ≡ true → e ≡ k → Some (record { event = e; bytes = n }) ≡ line_of n (cond t (Value k) Malformed)
+pub line_read : (t : Bool) (n e k : ℕ) → t ≡ true → e ≡ k → Some (record { event = e; bytes = n }) ≡ line_of n (cond t (Some k) None)
 line_read t n e k h same = rw (h, same)
 
 -- ---- two digits or three, and t of the third
@@ -134,8 +132,8 @@ module _ (a b c d : ℕ) where
       go :
           (s n t m : Bool) → s && (n || (t && m)) ≡ false
           → None
-          ≡ cond n (line_of 3 (cond s (Value (digit_value a * 10 + digit_value b)) Malformed))
-          (cond m (line_of 4 (cond (s && t) (Value (digit_value a * 100 + digit_value b * 10 + digit_value c)) Malformed)) None)
+          ≡ cond n (line_of 3 (cond s (Some (digit_value a * 10 + digit_value b)) None))
+          (cond m (line_of 4 (cond (s && t) (Some (digit_value a * 100 + digit_value b * 10 + digit_value c)) None)) None)
       go false true t m h = refl
       go false false t m h = either m None
       go true true t m h = absurd (subst T h tt)
@@ -166,9 +164,9 @@ number_read :
     → Some r ≡ line_of n (number_of p) → LineAt part at r
 number_read part p at n r some within here e = go (number_of p) refl e
   where
-    go : (v : numbers.Number) → number_of p ≡ v → Some r ≡ line_of n v → LineAt part at r
-    go Malformed q e = absurd (let z : ◌≡◌ {A = ℕ} 0 1 = cc e in omega arith)
-    go (Value k) q e =
+    go : (v : Option ℕ) → number_of p ≡ v → Some r ≡ line_of n v → LineAt part at r
+    go None q e = absurd (let z : ◌≡◌ {A = ℕ} 0 1 = cc e in omega arith)
+    go (Some k) q e =
         let is = printed p k q in
         let same : r ≡ record { event = k; bytes = n } = cc e in
         subst (λ (l : EventLine). LineAt part at l) (sym same)

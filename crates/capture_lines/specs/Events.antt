@@ -1,7 +1,5 @@
 -- Whole event lines, each with its newline: how they are written, and what is read of them.
 use Rattle.std.specs.Prelude.{Bool, true, cond, Option, None, Some, ◌&&◌, ◌||◌, List, [], ◌∷◌, ◌++◌, ◌⊎◌, ◌≡◌, ℕ, zero, suc, ◌+◌, ◌<◌, ◌≤◌, eqb, ltb, length, get_or, take, drop}
-use Rattle.text.specs.declared.Number.{Number}
-use Rattle.text.specs.declared.Number.TheVariants.{Value, Malformed}
 use Rattle.text.specs.Decimal.{is_digit, is_leading, one_digit, two_digits, three_digits, decimal}
 use Rattle.capture_lines.specs.declared.EventLines.{EventLines}
 use Rattle.capture_lines.specs.declared.event.EventLine.{EventLine}
@@ -20,9 +18,9 @@ Small (e ∷ es) = (e < 1000) × Small es
 -- ---- the line that four bytes begin with
 
 -- the line of a number with so many bytes
-abbrev pub line_of : ℕ → Number → Option EventLine
-line_of n (Value e) = Some (record { event = e; bytes = n })
-line_of n Malformed = None
+abbrev pub line_of : ℕ → Option ℕ → Option EventLine
+line_of n (Some e) = Some (record { event = e; bytes = n })
+line_of n None = None
 
 unfoldable pub long_line : ℕ → ℕ → ℕ → ℕ → Option EventLine
 long_line a b c d =

@@ -1,7 +1,5 @@
 -- A line byte by byte: what is kept of the bytes before the newline. proofs/Laws.antt holds it against what the whole line says.
-use Rattle.std.specs.Prelude.{Bool, true, false, cond, ◌&&◌, List, [], ◌∷◌, ◌≡◌, ℕ, ◌+◌, ◌*◌, eqb, leb, ltb, get_or, drop}
-use Rattle.text.specs.declared.Number as numbers
-use Rattle.text.specs.declared.Number.TheVariants.{Value, Malformed}
+use Rattle.std.specs.Prelude.{Bool, true, false, cond, ◌&&◌, List, [], ◌∷◌, ◌≡◌, ℕ, ◌+◌, ◌*◌, eqb, leb, ltb, get_or, drop, Option, Some, None}
 use Rattle.text.specs.Decimal.{is_digit, digit_value, number_of}
 use Rattle.capture_lines.specs.declared.LineSoFar.{LineSoFar}
 use Rattle.capture_lines.specs.declared.LineSoFar.TheVariants.{First, Pins, Empty, Number, BadFirst, Bad}
@@ -45,17 +43,17 @@ with_bytes l (b ∷ bs) = with_bytes (with_byte l b) bs
 -- ---- what is kept, in the words of the whole line
 
 -- the pins, once the first line has them
-abbrev pub pins_in : LineSoFar → numbers.Number
-pins_in (First k) = Malformed
-pins_in (Pins p) = Value p
-pins_in Empty = Malformed
-pins_in (Number n) = Malformed
-pins_in BadFirst = Malformed
-pins_in Bad = Malformed
+abbrev pub pins_in : LineSoFar → Option ℕ
+pins_in (First k) = None
+pins_in (Pins p) = Some p
+pins_in Empty = None
+pins_in (Number n) = None
+pins_in BadFirst = None
+pins_in Bad = None
 
-abbrev pub of_number : numbers.Number → LineSoFar
-of_number (Value n) = Number n
-of_number Malformed = Bad
+abbrev pub of_number : Option ℕ → LineSoFar
+of_number (Some n) = Number n
+of_number None = Bad
 
 -- an event line with these bytes
 abbrev pub event_line : List ℕ → LineSoFar

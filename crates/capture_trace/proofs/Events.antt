@@ -7,8 +7,7 @@ use native.Mathlib.Omega.{arith}
 use lib.ListN.{length, get_or}
 use Rattle.registers.specs.Refusals.{lengths_refusal}
 use Rattle.registers.specs.State.{State}
-use Rattle.text.specs.declared.Number as numbers
-use Rattle.text.specs.declared.Number.TheVariants.{Value, Malformed}
+use Rattle.std.specs.Prelude.{Option, Some, None}
 use Rattle.text.specs.Text.{split, join}
 use Rattle.text.proofs.Splitting.{split-some}
 use Rattle.text.proofs.Joining.{split-append, split-join, join-split}
@@ -103,7 +102,7 @@ module _ (m w : List ℕ) (lent : Lent m w) where
     where
       go : (ps : List (List ℕ)) → 0 < length ps → done_lines (first_line pins ∷ ps) m w ≡ done_events (events_of ps).events (started pins m w)
       go [] l = absurd (omega arith)
-      go (q ∷ ps) l = ap (λ (v : numbers.Number). done_with_pins v (events_of (q ∷ ps)) m w) (first_read pins h)
+      go (q ∷ ps) l = ap (λ (v : Option ℕ). done_with_pins v (events_of (q ∷ ps)) m w) (first_read pins h)
 
   done-written :
       (pins : ℕ) (es rest : List ℕ) → pins ≤ 3 → Small es
@@ -120,7 +119,7 @@ stop-none rest s (unended f some) = rw (split-join newline rest [] (f, tt)) (go 
     go [] = refl
     go (x ∷ p) = refl
 stop-none rest s (no_number line more f e t) =
-    rw (t, events-line line more f) (ap (λ (v : numbers.Number). done_events (with_event v (events_of (split newline more))).events s) e)
+    rw (t, events-line line more f) (ap (λ (v : Option ℕ). done_events (with_event v (events_of (split newline more))).events s) e)
 stop-none rest s (refused_event e more small r t) =
     rw (t, events-event e more small) (done-stopped e (events_of (split newline more)).events s r)
 
@@ -157,9 +156,9 @@ unread-done text m w n = unless (lengths_refusal (length m) (length w)) (go (spl
     unless zero e = e
     unless (suc k) e = refl
 
-    by_pins : (p q : List ℕ) (ps : List (List ℕ)) → split newline text ≡ p ∷ q ∷ ps → (v : numbers.Number) → pins_of p ≡ v → lines ≡ []
-    by_pins p q ps e Malformed v = rw (e, v)
-    by_pins p q ps e (Value pins) v =
+    by_pins : (p q : List ℕ) (ps : List (List ℕ)) → split newline text ≡ p ∷ q ∷ ps → (v : Option ℕ) → pins_of p ≡ v → lines ≡ []
+    by_pins p q ps e None v = rw (e, v)
+    by_pins p q ps e (Some pins) v =
         let is = first-written p pins v in
         absurd (n pins (join newline (q ∷ ps)) is.1 (sym (join-split newline text) ∙ rw (e, is.0)))
 

@@ -8,8 +8,7 @@ use lib.Dec.{eqb}
 use lib.ListN.{length}
 use lib.Seq.{append_snoc}
 use Rattle.registers.specs.State.{State}
-use Rattle.text.specs.declared.Number as numbers
-use Rattle.text.specs.declared.Number.TheVariants.{Value, Malformed}
+use Rattle.std.specs.Prelude.{Option, Some, None}
 use Rattle.text.specs.Decimal.{number_of}
 use Rattle.text.specs.Text.{split, on_first}
 use Rattle.text.proofs.Splitting.{split-some}
@@ -78,9 +77,9 @@ module _ (bs : List ℕ) (rest : EventsRead) (h : (s : State) → done_in_bytes 
   line-done [] = stuck bs s
   line-done (x ∷ p) = go (number_of (x ∷ p))
     where
-      go : (v : numbers.Number) → at_end (of_number v) ≡ done_events (with_event v rest).events s
-      go Malformed = stuck bs s
-      go (Value e) = event-done e
+      go : (v : Option ℕ) → at_end (of_number v) ≡ done_events (with_event v rest).events s
+      go None = stuck bs s
+      go (Some e) = event-done e
 
 -- no newline follows
 line-left : (p : List ℕ) (s : State) → [] ≡ done_events (events_of ((p ++ []) ∷ [])).events s

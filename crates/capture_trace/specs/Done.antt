@@ -1,9 +1,7 @@
 -- The events that a capture does, each with the chip as it stands before it: those of a whole capture, and those of one that comes in parts.
-use Rattle.std.specs.Prelude.{cond, List, [], ◌∷◌, ◌++◌, ℕ, zero, suc, eqb, length}
+use Rattle.std.specs.Prelude.{cond, List, [], ◌∷◌, ◌++◌, ℕ, zero, suc, eqb, length, Option, Some, None}
 use Rattle.registers.specs.Refusals.{lengths_refusal}
 use Rattle.registers.specs.State.{State}
-use Rattle.text.specs.declared.Number as number
-use Rattle.text.specs.declared.Number.TheVariants as numbers
 use Rattle.text.specs.Text.{split}
 use Rattle.chip.specs.Promised.{refusal_of, step_of}
 use Rattle.capture_lines.specs.declared.LineSoFar.{LineSoFar}
@@ -33,9 +31,9 @@ unfoldable pub done_events : List ℕ → State → List DoneEvent
 done_events [] s = []
 done_events (e ∷ es) s = done_unless (refusal_of e s) (done_event e s ∷ done_events es (step_of e s).state)
 
-abbrev pub done_with_pins : number.Number → EventsRead → List ℕ → List ℕ → List DoneEvent
-done_with_pins numbers.Malformed l m w = []
-done_with_pins (numbers.Value pins) l m w = done_events l.events (started pins m w)
+abbrev pub done_with_pins : Option ℕ → EventsRead → List ℕ → List ℕ → List DoneEvent
+done_with_pins None l m w = []
+done_with_pins (Some pins) l m w = done_events l.events (started pins m w)
 
 abbrev pub done_lines : List (List ℕ) → List ℕ → List ℕ → List DoneEvent
 done_lines [] m w = []

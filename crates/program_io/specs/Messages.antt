@@ -1,8 +1,6 @@
 -- What the programs say: a message is one line that begins with the program's own name.
-use Rattle.std.specs.Prelude.{Bool, cond, ◌||◌, List, [], ◌∷◌, ◌++◌, ◌≡◌, ℕ, ◌≤◌, min, eqb, ltb, length}
+use Rattle.std.specs.Prelude.{Bool, cond, ◌||◌, List, [], ◌∷◌, ◌++◌, ◌≡◌, ℕ, ◌≤◌, min, eqb, ltb, length, Option, Some, None}
 use Rattle.std.proofs.lemmas.List.Edits.{sets}
-use Rattle.text.specs.declared.Number.{Number}
-use Rattle.text.specs.declared.Number.TheVariants.{Value, Malformed}
 use Rattle.text.specs.Text.{bytes, same_bytes}
 
 -- ---- words that mean something as an argument
@@ -16,9 +14,9 @@ abbrev pub is_dash : List ℕ → Bool
 is_dash word = same_bytes word (bytes "-")
 
 -- a number as lists and captures write numbers; 1000, which three digits can't write, for a word that is none
-abbrev pub value_of : Number → ℕ
-value_of (Value n) = n
-value_of Malformed = 1000
+abbrev pub value_of : Option ℕ → ℕ
+value_of (Some n) = n
+value_of None = 1000
 
 -- ---- names
 

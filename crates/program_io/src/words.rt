@@ -4,7 +4,6 @@ ghost use Rattle.text.specs.Decimal.{number_of};
 ghost use Rattle.print.specs.Printed.{Wrote};
 ghost use Rattle.program_io.specs.Messages.{is_help, is_dash, value_of, shown_byte, shown_of, name_of, title_of, Began, message_of, usage_of, wrong_call_of};
 
-use text::Number;
 use text::search::equal;
 
 // What three digits can't write.
@@ -22,12 +21,12 @@ pub fn is_dash(word: &[u8]) -> bool
     equal(word, b"-")
 }
 
-fn value_of(number: Number) -> u16
+fn value_of(number: Option<u16>) -> u16
     ensures { result ≡ value_of number }
 {
     match number {
-        Number::Value(n) => n,
-        Number::Malformed => NO_NUMBER,
+        Some(n) => n,
+        None => NO_NUMBER,
     }
 }
 

@@ -1,9 +1,10 @@
 -- Searching, counting and comparing.
-use mathlib.Core.Path.{◌≡◌, refl}
+use mathlib.Core.Path.{◌≡◌, refl, sym, ◌∙◌}
 use mathlib.Core.Bool.{Bool, true, false, cond, ◌&&◌}
 use mathlib.Core.List.{List, [], ◌∷◌, ◌++◌}
 use Prim.Native.Nat.{ℕ, suc, ◌+◌, ◌≤◌, ◌<◌}
 use native.Mathlib.Numerals.{add-one}
+use native.Mathlib.Decide.{dec_le}
 use native.Mathlib.Omega.{arith}
 use borrow.Author.Tests.{eqb-true, le-leb, leb-true}
 use lib.Dec.{eqb, leb}
@@ -39,6 +40,14 @@ module _ (s : List ℕ) (at b : ℕ) where
 
   pub find-bounds : at ≤ length s → (at ≤ find_of s at b) × (find_of s at b ≤ length s)
   find-bounds h = rw (find-from h) (omega (arith, simp length-drop at (before-bound b (drop at s))))
+
+  -- the byte stands nowhere behind `at`
+  pub find-missing : length (drop at s) ≤ before b (drop at s) → length s ≡ find_of s at b
+  find-missing h = go (dec_le at (length s))
+    where
+      go : Dec (at ≤ length s) → length s ≡ find_of s at b
+      go (yes l) = sym (find-from l ∙ omega (arith, before-bound b (drop at s), length-drop at s))
+      go (no m) = sym (find_none (omega arith))
 
 -- ---- count
 

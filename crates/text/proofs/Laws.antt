@@ -4,8 +4,7 @@ use mathlib.Core.Logic.{◌↔◌}
 use mathlib.Core.Path.{◌≡◌, refl, sym, ap, ◌∙◌}
 use Prim.Native.Nat.{ℕ, ◌<◌}
 use native.Mathlib.Omega.{arith}
-use Rattle.text.specs.declared.Number.{Number}
-use Rattle.text.specs.declared.Number.TheVariants.{Value, Malformed}
+use Rattle.std.specs.Prelude.{Option, Some, None}
 use Rattle.text.specs.Decimal.{number_of, field_numbers, decimal}
 use Rattle.text.proofs.Printing.{printed, read_back}
 
@@ -17,12 +16,12 @@ IsNumber s n = (n < 1000) × (s ≡ decimal n)
 pub value-exactly : (s : List ℕ) (n : ℕ) → (field_numbers (number_of s) ≡ 0 ∷ n ∷ []) ↔ IsNumber s n
 value-exactly s n = (there (number_of s) refl, λ h. ap field_numbers (ap number_of h.1 ∙ read_back n h.0))
   where
-    there : (x : Number) → number_of s ≡ x → field_numbers x ≡ 0 ∷ n ∷ [] → IsNumber s n
-    there (Value m) e v =
+    there : (x : Option ℕ) → number_of s ≡ x → field_numbers x ≡ 0 ∷ n ∷ [] → IsNumber s n
+    there (Some m) e v =
         let same : m ≡ n = cc in
-        let p = printed s n (e ∙ ap Value same) in
+        let p = printed s n (e ∙ ap Some same) in
         (p.small, p.in-decimal)
-    there Malformed e v = let z : ◌≡◌ {A = ℕ} 0 1 = cc in absurd (omega arith)
+    there None e v = let z : ◌≡◌ {A = ℕ} 0 1 = cc in absurd (omega arith)
 
 -- 6 comes exactly where the bytes are no such number
 pub six-exactly : (s : List ℕ) → (field_numbers (number_of s) ≡ 6 ∷ []) ↔ ((n : ℕ) → IsNumber s n → ⊥)
@@ -31,6 +30,6 @@ six-exactly s = (λ e n h. not-both n (sym ((value-exactly s n).1 h) ∙ e), λ 
     not-both : (n : ℕ) → 0 ∷ n ∷ [] ≡ 6 ∷ [] → ⊥
     not-both n e = let z : ◌≡◌ {A = ℕ} 0 1 = cc in omega arith
 
-    go : (x : Number) → number_of s ≡ x → ((n : ℕ) → IsNumber s n → ⊥) → field_numbers x ≡ 6 ∷ []
-    go (Value m) e none = let p = printed s m e in absurd (none m (p.small, p.in-decimal))
-    go Malformed e none = refl
+    go : (x : Option ℕ) → number_of s ≡ x → ((n : ℕ) → IsNumber s n → ⊥) → field_numbers x ≡ 6 ∷ []
+    go (Some m) e none = let p = printed s m e in absurd (none m (p.small, p.in-decimal))
+    go None e none = refl

@@ -1,4 +1,5 @@
 pub mod CodeWays
+pub mod Chains
 pub mod Finding
 pub mod Joining
 pub mod Laws

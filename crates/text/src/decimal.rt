@@ -1,70 +1,50 @@
 // Numbers as document 01 writes them in lists and captures: 1 to 3 digits, no leading zero but for 0 itself.
-ghost use Rattle.std.specs.Prelude.{◌≡◌};
-ghost use Rattle.text.specs.Decimal.{is_digit, is_leading, digit_value, one_digit, two_digits, three_digits, number_of};
-
-use crate::Number;
-
-fn is_digit(byte: u8) -> bool
-    ensures { result ≡ is_digit byte }
-{
-    (48 <= byte) & (byte <= 57)
-}
+ghost use Rattle.std.specs.Prelude.{◌≡◌, ◌<◌};
+ghost use Rattle.text.specs.Decimal.{is_leading, digit_value, one_digit, two_digits, three_digits, number_of};
 
 fn is_leading(byte: u8) -> bool
     ensures { result ≡ is_leading byte }
 {
-    (49 <= byte) & (byte <= 57)
+    matches!(byte, b'1'..=b'9')
 }
 
 // The value of a digit. It is asked only of digits, and answers 0 below them.
 fn digit(byte: u8) -> u16
-    ensures { result ≡ digit_value byte }
+    ensures value { result ≡ digit_value byte }
+    ensures bound { result < 208 }
 {
-    if byte < 48 {
-        return 0;
-    }
-    (byte as u16) - 48
+    u16::from(byte.saturating_sub(b'0'))
 }
 
-fn one_digit(a: u8) -> Number
+fn one_digit(a: u8) -> Option<u16>
     ensures { result ≡ one_digit a }
 {
-    if is_digit(a) {
-        return Number::Value(digit(a));
-    }
-    Number::Malformed
+    a.is_ascii_digit().then_some(digit(a))
 }
 
-fn two_digits(a: u8, b: u8) -> Number
+fn two_digits(a: u8, b: u8) -> Option<u16>
     ensures { result ≡ two_digits a b }
 {
-    if is_leading(a) & is_digit(b) {
-        return Number::Value(digit(a) * 10 + digit(b));
-    }
-    Number::Malformed
+    (is_leading(a) && b.is_ascii_digit()).then_some(digit(a) * 10 + digit(b))
 }
 
-fn three_digits(a: u8, b: u8, c: u8) -> Number
+fn three_digits(a: u8, b: u8, c: u8) -> Option<u16>
     ensures { result ≡ three_digits a b c }
 {
-    if is_leading(a) & is_digit(b) & is_digit(c) {
-        return Number::Value(digit(a) * 100 + digit(b) * 10 + digit(c));
-    }
-    Number::Malformed
+    (is_leading(a) && b.is_ascii_digit() && c.is_ascii_digit()).then_some(
+        digit(a) * 100 + digit(b) * 10 + digit(c),
+    )
 }
 
-// The number that these bytes write, all of them.
-pub fn number(s: &[u8]) -> Number
+// The number that these bytes write, all of them; none where they write none.
+#[tactic(auto, unfolding(crate::specs::Decimal::number_of))]
+pub fn number(s: &[u8]) -> Option<u16>
     ensures { result ≡ number_of s.now }
 {
-    if s.len() == 1 {
-        return one_digit(s[0]);
+    match s {
+        [a] => one_digit(*a),
+        [a, b] => two_digits(*a, *b),
+        [a, b, c] => three_digits(*a, *b, *c),
+        _ => None,
     }
-    if s.len() == 2 {
-        return two_digits(s[0], s[1]);
-    }
-    if s.len() == 3 {
-        return three_digits(s[0], s[1], s[2]);
-    }
-    Number::Malformed
 }

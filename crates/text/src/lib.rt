@@ -4,10 +4,3 @@
 pub mod decimal;
 pub mod pieces;
 pub mod search;
-
-// What a field that should be a number holds.
-#[derive(Clone, Copy)]
-pub enum Number {
-    Value(u16),
-    Malformed,
-}

@@ -2,7 +2,7 @@
 ghost use Rattle.std.specs.Prelude.{◌≡◌, [], length, get_or};
 ghost use Rattle.text.specs.Text.{split, index_of};
 
-use crate::search::{count, equal, find};
+use crate::search::{count, equal};
 
 // How many pieces there are.
 pub fn pieces(s: &[u8], separator: u8) -> usize
@@ -15,36 +15,14 @@ pub fn pieces(s: &[u8], separator: u8) -> usize
 pub fn piece(s: &[u8], separator: u8, k: usize) -> &[u8]
     ensures { result.now ≡ get_or (split separator s.now) k [] }
 {
-    let mut at = 0;
-    let mut left = k;
-    loop {
-        let end = find(s, at, separator);
-        if left == 0 {
-            return &s[at..end];
-        }
-        if s.len() <= end {
-            return &s[end..];
-        }
-        at = end + 1;
-        left -= 1;
-    }
+    s.split(|b| *b == separator).nth(k).unwrap_or(&[])
 }
 
 // The number of the first piece that holds the word; where none does, the number of pieces.
 pub fn index_of(s: &[u8], separator: u8, word: &[u8]) -> usize
     ensures { result ≡ index_of word.now (split separator s.now) }
 {
-    let mut at = 0;
-    let mut passed = 0;
-    loop {
-        let end = find(s, at, separator);
-        if equal(&s[at..end], word) {
-            return passed;
-        }
-        passed += 1;
-        if s.len() <= end {
-            return passed;
-        }
-        at = end + 1;
-    }
+    s.split(|b| *b == separator)
+        .position(|piece| equal(piece, word))
+        .unwrap_or(pieces(s, separator))
 }

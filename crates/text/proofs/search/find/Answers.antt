@@ -1,16 +1,19 @@
-use Rattle.text.proofs.CodeWays.{find-here, find-on}
-use Rattle.text.proofs.Finding.{find_none}
-use mathlib.Core.Path.{refl, sym, ◌∙◌}
+use Rattle.std.proofs.Common.{rules, eqb, tests, refl, ◌∙◌, ℕ, Some, None}
+use Rattle.std.proofs.lemmas.Iterator.{YieldsList-from_slice}
+use Rattle.std.proofs.lemmas.Iterator.Search.{position_from_yields_List}
+use Rattle.text.proofs.Chains.{behind_lem, position-find}
 use Rattle.text.proofs.search.find.Goals as goal
 
-pub loop-at-init : goal.loop-at-init
-loop-at-init c = refl
+pub returns-in-Some : goal.returns-in-Some
+returns-in-Some c =
+    position-find c.args.s.now c.args.from c.args.byte (Some c.in-Some.passed)
+    (position_from_yields_List (λ (x : ℕ). eqb x c.args.byte) _ _ (Some c.in-Some.passed) c.in-Some.ensures.ran
+    (YieldsList-from_slice _ (c.iter.ensures.rest ∙ behind_lem c.args.s.now c.args.from c.get.result _ _ refl c.get.ensures.lookup c.unwrap_or-behind.ensures))
+    (λ x b q k. search (rules, tests)))
 
-pub returns-then-s-at : goal.returns-then-s-at
-returns-then-s-at c = sym (find-here _ _ _ c.loop-at-test.true c.if-s-at.true) ∙ c.loop-at.invariant
-
-pub loop-at-preserved : goal.loop-at-preserved
-loop-at-preserved c = sym (find-on _ _ _ c.loop-at-test.true c.if-s-at.false) ∙ c.loop-at.invariant
-
-pub returns : goal.returns
-returns c = sym (find_none _ _ _ c.loop-at-test.false) ∙ c.loop-at.invariant
+pub returns-in-None : goal.returns-in-None
+returns-in-None c =
+    position-find c.args.s.now c.args.from c.args.byte None
+    (position_from_yields_List (λ (x : ℕ). eqb x c.args.byte) _ _ None c.in-None.ensures.ran
+    (YieldsList-from_slice _ (c.iter.ensures.rest ∙ behind_lem c.args.s.now c.args.from c.get.result _ _ refl c.get.ensures.lookup c.unwrap_or-behind.ensures))
+    (λ x b q k. search (rules, tests)))
