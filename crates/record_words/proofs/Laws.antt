@@ -16,7 +16,7 @@ use Rattle.registers.specs.Record.{phase_rs, allowed, within, values, counts, co
 use Rattle.registers.proofs.Below.{all_below, below_at, false-true}
 use Rattle.registers.proofs.Within.{both_left, both_right}
 use Rattle.registers.proofs.Tables.{tabulated}
-use Rattle.record_words.specs.declared.Read.TheVariants.{Record, NoRecord}
+use Rattle.std.specs.Prelude.{None, Some}
 use Rattle.record_words.specs.Words.{word_limits, record_length, stands_for, chip_of, words_of, phase_of, phase_number}
 use Rattle.record_words.specs.Words.{rs_fits, bit, is_set, read_of, read_number, stored}
 use Rattle.record_words.proofs.Stands.{true_of, in_words, stands-length, stands-within, stands_at, stands-rs}
@@ -161,19 +161,19 @@ stands-allowed ws h =
 -- ---- reading and writing
 
 module _ (ws : List ℕ) where
-  pub read-record-exactly : (c : Chip) → (read_of ws ≡ Record c) ↔ ((stands_for ws ≡ true) × (c ≡ chip_of ws))
+  pub read-record-exactly : (c : Chip) → (read_of ws ≡ Some c) ↔ ((stands_for ws ≡ true) × (c ≡ chip_of ws))
   unfolding read_of
   read-record-exactly c = (there (stands_for ws) refl, λ (h, e). rw (h, e))
     where
-      there : (t : Bool) → stands_for ws ≡ t → cond t (Record (chip_of ws)) NoRecord ≡ Record c → (stands_for ws ≡ true) × (c ≡ chip_of ws)
+      there : (t : Bool) → stands_for ws ≡ t → cond t (Some (chip_of ws)) None ≡ Some c → (stands_for ws ≡ true) × (c ≡ chip_of ws)
       there true h e = (h, cc)
       there false h e = let z : ◌≡◌ {A = ℕ} 0 1 = cc in absurd (omega arith)
 
-  pub read-none-exactly : (read_of ws ≡ NoRecord) ↔ (stands_for ws ≡ false)
+  pub read-none-exactly : (read_of ws ≡ None) ↔ (stands_for ws ≡ false)
   unfolding read_of
   read-none-exactly = (there (stands_for ws) refl, λ h. rw h)
     where
-      there : (t : Bool) → stands_for ws ≡ t → cond t (Record (chip_of ws)) NoRecord ≡ NoRecord → stands_for ws ≡ false
+      there : (t : Bool) → stands_for ws ≡ t → cond t (Some (chip_of ws)) None ≡ None → stands_for ws ≡ false
       there true h e = let z : ◌≡◌ {A = ℕ} 0 1 = cc in absurd (omega arith)
       there false h e = h
 
@@ -182,7 +182,7 @@ module _ (ws : List ℕ) where
   unfolding read_of
   two-exactly = (there (stands_for ws) refl, λ h. rw h)
     where
-      there : (t : Bool) → stands_for ws ≡ t → read_number (cond t (Record (chip_of ws)) NoRecord) ≡ 2 → stands_for ws ≡ false
+      there : (t : Bool) → stands_for ws ≡ t → read_number (cond t (Some (chip_of ws)) None) ≡ 2 → stands_for ws ≡ false
       there true h e = absurd (omega arith)
       there false h e = h
 

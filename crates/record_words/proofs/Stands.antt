@@ -53,3 +53,6 @@ module _ (ws : List ℕ) (h : stands_for ws ≡ true) where
   pub stands-byte : (i : ℕ) → i < PIXELS → get_or ws i 0 < 256
   stands-byte i l =
       omega (arith, stands_at i, leb-true (get_or word_limits i 0) 255 (true_of _ (below_at PIXELS (λ k. leb (get_or word_limits k 0) 255) tt i l)))
+
+-- what the test gives of each word, for the functions that read them
+pub ruleset stands = (stands-length, stands_at, stands-byte)

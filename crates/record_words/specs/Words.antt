@@ -1,11 +1,9 @@
 -- The chip's record as a host in C holds it: 38 words of 64 bits.
-use Rattle.std.specs.Prelude.{Bool, true, cond, ◌&&◌, ◌||◌, List, [], ◌∷◌, ◌++◌, ℕ, ◌+◌, eqb, length, get_or}
+use Rattle.std.specs.Prelude.{Bool, true, cond, ◌&&◌, ◌||◌, Option, None, Some, List, [], ◌∷◌, ◌++◌, ℕ, ◌+◌, eqb, length, get_or}
 use Rattle.registers.specs.declared.Chip.{Chip}
 use Rattle.registers.specs.declared.PixelCounts.{PixelCounts}
 use Rattle.registers.specs.declared.Phase.{Phase}
 use Rattle.registers.specs.declared.Phase.TheVariants.{Idle, AddressAwaited, Ignoring, ControlAwaited, OneByte, EndlessBytes, Reading, ReadEnded}
-use Rattle.record_words.specs.declared.Read.{Read}
-use Rattle.record_words.specs.declared.Read.TheVariants.{Record, NoRecord}
 use Rattle.registers.specs.Record.{phase_rs, limits, values, of_values, within, counts, by_value, count_limits}
 
 -- where the words stand: 0..28 the registers in document 01's order, then these
@@ -92,13 +90,13 @@ words_of c =
 
 -- ---- what reading and writing give
 
-unfoldable pub read_of : List ℕ → Read
-read_of ws = cond (stands_for ws) (Record (chip_of ws)) NoRecord
+unfoldable pub read_of : List ℕ → Option Chip
+read_of ws = cond (stands_for ws) (Some (chip_of ws)) None
 
 -- words that stand for no record are refused by 2
-abbrev pub read_number : Read → ℕ
-read_number (Record c) = 0
-read_number NoRecord = 2
+abbrev pub read_number : Option Chip → ℕ
+read_number (Some c) = 0
+read_number None = 2
 
 -- the buffer ws after a record was written; one of another length is left as it was
 unfoldable pub stored : Chip → List ℕ → List ℕ

@@ -1,9 +1,9 @@
 // A chip's record as a host in C holds it, in words of 64 bits: whether they stand for a record, and both ways across.
 #![tactic(auto)]
 
-ghost use Rattle.std.specs.Prelude.{◌≡◌, true, ◌++◌, length, take, drop};
-ghost use Rattle.registers.specs.Record.{within, values, counts};
-ghost use Rattle.record_words.specs.Words.{PIXELS, record_length, word_limits, stands_for, pixels_of, chip_of, words_of, read_of, stored, bit};
+ghost use Rattle.std.specs.Prelude.{◌≡◌, true, length, take};
+ghost use Rattle.registers.specs.Record.{within};
+ghost use Rattle.record_words.specs.Words.{record_length, word_limits, stands_for, pixels_of, chip_of, words_of, read_of, stored};
 
 use registers::{Chip, PixelCounts, Registers};
 
@@ -12,45 +12,17 @@ mod phase;
 // The registers come first, then pins, status byte, last RS, phase, the phase's RS, the pixels of value 0, 1, 2 and 3.
 pub const WORDS: usize = 38;
 
-// The largest values of the words behind the registers.
-const REST_LIMITS: [u64; 9] = [3, 255, 1, 7, 1, 6767, 6767, 6767, 6767];
+// The largest value of each.
+const LIMITS: [u64; 38] = [
+    4, 1, 1, 1, 1, 1, 1, 1, 1, 100, 16, 7, 1, 7, 1, 1, 7, 7, 1, 127, 3, 63, 63, 63, 63, 1, 1, 1, 1,
+    3, 255, 1, 7, 1, 6767, 6767, 6767, 6767,
+];
 
-// What words say: a record, or nothing, as they stand for none.
-#[derive(Clone, Copy)]
-pub enum Read {
-    Record(Chip),
-    NoRecord,
-}
-
-fn wide(byte: u8) -> u64
-    ensures { result ≡ byte }
-{
-    byte as u64
-}
-
-fn bit(b: bool) -> u64
-    ensures { result ≡ bit b }
-{
-    b as u64
-}
-
-// The limits are laid out once, before the words are gone through.
 fn within_limits(words: &[u64]) -> bool
     requires { length words.now ≡ record_length }
     ensures { result ≡ within true words.now word_limits }
 {
-    let limits = registers::limits::limits();
-    let mut fine = true;
-    let mut i = 0;
-    while i < 29 {
-        fine = fine & (words[i] <= wide(limits[i]));
-        i += 1;
-    }
-    while i < WORDS {
-        fine = fine & (words[i] <= REST_LIMITS[i - 29]);
-        i += 1;
-    }
-    fine
+    words.iter().zip(&LIMITS).all(|(word, limit)| word <= limit)
 }
 
 // As many words as a record has, within their limits; the phase's RS is 0 but in phases 4 and 5.
@@ -63,19 +35,19 @@ fn stand_for_a_chip(words: &[u64]) -> bool
     within_limits(words) & ((words[33] == 0) | ((words[32] == 4) | (words[32] == 5)))
 }
 
+#[tactic(auto, using(crate::proofs::Stands::stands))]
 fn register_bytes(words: &[u64]) -> [u8; 29]
     requires { stands_for words.now ≡ true }
     ensures { result ≡ take 29 words.now }
 {
-    let mut bytes = [0u8; 29];
-    let mut i = 0;
-    while i < 29 {
-        bytes[i] = words[i] as u8;
-        i += 1;
+    let mut bytes = [0; 29];
+    for register in 0..29 {
+        bytes[register] = words[register] as u8;
     }
     bytes
 }
 
+#[tactic(auto, using(crate::proofs::Stands::stands))]
 fn pixels(words: &[u64]) -> PixelCounts
     requires { stands_for words.now ≡ true }
     ensures { result ≡ pixels_of words.now }
@@ -88,69 +60,56 @@ fn pixels(words: &[u64]) -> PixelCounts
     }
 }
 
-// The phase comes first: it is a choice, and the other words would have to be held across it.
+#[tactic(auto, using(crate::proofs::Stands::stands))]
 fn chip(words: &[u64]) -> Chip
     requires { stands_for words.now ≡ true }
     ensures { result ≡ chip_of words.now }
 {
-    let phase = phase::of(words[32], words[33] == 1);
     Chip {
         registers: Registers::of_bytes(register_bytes(words)),
         pins: words[29] as u8,
         status: words[30] as u8,
         last_rs: words[31] == 1,
-        phase,
+        phase: phase::of(words[32], words[33] == 1),
         pixels: pixels(words),
     }
 }
 
-// The record that the words stand for.
-pub fn read_record(words: &[u64]) -> Read
+// The record that the words stand for, if they stand for one.
+#[tactic(auto, unfolding(crate::specs::Words::read_of))]
+pub fn read_record(words: &[u64]) -> Option<Chip>
     ensures { result ≡ read_of words.now }
 {
     if stand_for_a_chip(words) {
-        return Read::Record(chip(words));
+        Some(chip(words))
+    } else {
+        None
     }
-    Read::NoRecord
-}
-
-fn write_registers(registers: Registers, words: &mut [u64])
-    requires { length words.old ≡ record_length }
-    ensures { words.new ≡ values registers ++ drop 29 words.old }
-{
-    let bytes = registers.bytes();
-    let mut i = 0;
-    while i < 29 {
-        words[i] = wide(bytes[i]);
-        i += 1;
-    }
-}
-
-fn write_pixels(pixels: PixelCounts, words: &mut [u64])
-    requires { length words.old ≡ record_length }
-    ensures { words.new ≡ take PIXELS words.old ++ counts pixels }
-{
-    words[34] = pixels.zeros as u64;
-    words[35] = pixels.ones as u64;
-    words[36] = pixels.twos as u64;
-    words[37] = pixels.threes as u64;
 }
 
 fn write_all(chip: Chip, words: &mut [u64])
     requires { length words.old ≡ record_length }
     ensures { words.new ≡ words_of chip }
 {
-    write_registers(chip.registers, words);
-    write_pixels(chip.pixels, words);
-    let phase = chip.phase;
-    words[29] = wide(chip.pins);
-    words[30] = wide(chip.status);
-    words[31] = bit(chip.last_rs);
-    words[32] = phase::number(phase);
-    words[33] = bit(phase.rs());
+    let (registers, others) = words.split_at_mut(29);
+    let phase = phase::number(chip.phase);
+    let rs = u64::from(chip.phase.rs());
+    registers.copy_from_slice(&chip.registers.bytes().map(u64::from));
+    others.copy_from_slice(&[
+        u64::from(chip.pins),
+        u64::from(chip.status),
+        u64::from(chip.last_rs),
+        phase,
+        rs,
+        u64::from(chip.pixels.zeros),
+        u64::from(chip.pixels.ones),
+        u64::from(chip.pixels.twos),
+        u64::from(chip.pixels.threes),
+    ]);
 }
 
 // Writes the record's words into the host's buffer, if it has a record's length.
+#[tactic(auto, unfolding(crate::specs::Words::stored))]
 pub fn write_record(chip: Chip, words: &mut [u64])
     ensures { words.new ≡ stored chip words.old }
 {

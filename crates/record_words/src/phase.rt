@@ -20,6 +20,7 @@ pub fn of(number: u64, rs: bool) -> Phase
     }
 }
 
+// kept (no plainer): `From<Phase> for u64` can't stand here, since neither the phase nor `u64` is a type of this crate
 pub fn number(phase: Phase) -> u64
     ensures { result ≡ phase_number phase }
 {
