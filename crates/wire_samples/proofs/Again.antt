@@ -7,7 +7,7 @@ use Rattle.wire_samples.specs.declared.Stage.TheVariants.{Outside, Waiting}
 use Rattle.wire_samples.specs.declared.Wires.{Wires}
 use Rattle.wire_samples.specs.declared.signal.Signal.{Signal}
 use Rattle.wire_samples.specs.declared.signal.Signal.TheVariants.{Quiet, Start, Stop, Bit, Unclear}
-use Rattle.wire_samples.specs.declared.sample.Told.TheVariants.{Nothing, Event}
+use Rattle.std.proofs.Common.{None, Some}
 use Rattle.wire_samples.specs.Signal.{scl_of, sda_of, on_lines, signal_of}
 use Rattle.wire_samples.specs.Sample.{sampled, quiet, anew, is_waiting, on_stop, in_message, one_bit_more, byte_done, on_bit, on_signal, sample_of}
 
@@ -18,7 +18,7 @@ same_lines false true = refl
 same_lines false false = refl
 
 -- nothing is told, and nothing changes
-pub seen-again : (w : Wires) → sample_of w w.last ≡ sampled w Nothing
+pub seen-again : (w : Wires) → sample_of w w.last ≡ sampled w None
 unfolding sample_of on_signal signal_of
 seen-again w = ap (λ (g : Signal). on_signal w w.last g) (same_lines (scl_of w.last) (sda_of w.last))
 
@@ -27,7 +27,7 @@ pub last-sample : (w : Wires) (s : ℕ) → (sample_of w s).wires.last ≡ s
 unfolding sample_of on_signal on_stop on_bit
 last-sample w s = go (signal_of w.last s)
   where
-    stop-last : (t : Bool) → (cond t (anew w s Waiting Nothing) (anew w s Outside (Event 257))).wires.last ≡ s
+    stop-last : (t : Bool) → (cond t (anew w s Waiting None) (anew w s Outside (Some 257))).wires.last ≡ s
     stop-last true = refl
     stop-last false = refl
 

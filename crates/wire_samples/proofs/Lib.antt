@@ -1,4 +1,5 @@
 pub mod Again
-pub mod CodeWays
 pub mod Joined
 pub mod SoFar
+pub mod Tested
+pub mod Refused

@@ -1,46 +1,44 @@
 -- The loop over the samples: what holds after i of them, with n events stored, and what it comes to where it ends.
-use mathlib.Core.Bool.{Bool, true, false, cond}
+use mathlib.Core.Bool.{true, false, cond}
 use mathlib.Core.List.{List, [], ◌∷◌, ◌++◌, append-nil, append_assoc}
 use mathlib.Core.Path.{◌≡◌, refl, sym, ap, subst, ◌∙◌}
 use Prim.Native.Nat.{ℕ, suc, ◌+◌, ◌-◌, ◌≤◌, ◌<◌}
 use native.Mathlib.Nat.{add-zero, zero-add, sub-zero}
 use native.Mathlib.Numerals.{add-one}
 use native.Mathlib.Omega.{arith}
-use borrow.Author.Tests.{eq-eqb, ne_eqb, eqb-true, ltb-true}
+use borrow.Author.Tests.{eq-eqb, ne_eqb, ltb-true}
 use lib.Dec.{eqb}
 use lib.ListN.{length, take, drop, get_or, length-append, length-drop, drop_of_length-le}
 use lib.Seq.{sets, length-sets, take-suc, set_at, drop-cons}
 use Rattle.text.proofs.Finding.{drop-next}
 use Rattle.wire_samples.specs.declared.Wires.{Wires}
-use Rattle.wire_samples.specs.declared.Fed.{Fed}
-use Rattle.wire_samples.specs.declared.sample.Told.{Told}
-use Rattle.wire_samples.specs.declared.sample.Told.TheVariants.{Nothing, Event}
+use Rattle.std.proofs.Common.{Option, None, Some}
 use Rattle.wire_samples.specs.declared.sample.Sampled.{Sampled}
 use Rattle.wire_samples.specs.Sample.{sampled, sample_of, told_by}
-use Rattle.wire_samples.specs.Feed.{events_at, after_all, events_of, fits, fitting, repeats, as_much_as_fits, answer_of, stored}
+use Rattle.wire_samples.specs.Feed.{events_at, after_all, events_of, fits, fitting, as_much_as_fits, Answer, answer_of, stored}
 use Rattle.wire_samples.proofs.Again.{seen-again}
 use Rattle.wire_samples.proofs.Joined.{after-joined, events-joined}
 
 -- ---- what has room
 
 -- as many places are left as events are told
-pub fits-room : (t : Told) (room : ℕ) → fits t room ≡ true → length (told_by t) ≤ room
-fits-room Nothing room h = omega arith
-fits-room (Event e) room h = omega (arith, ltb-true 0 room h)
+pub fits-room : (t : Option ℕ) (room : ℕ) → fits t room ≡ true → length (told_by t) ≤ room
+fits-room None room h = omega arith
+fits-room (Some e) room h = omega (arith, ltb-true 0 room h)
 
 -- ---- one event more
 
 -- what is told goes behind the events that are stored
 pub one-stored :
-    (t : Told) (es out₀ : List ℕ) (n : ℕ) → n ≡ length es → n + length (told_by t) ≤ length out₀
+    (t : Option ℕ) (es out₀ : List ℕ) (n : ℕ) → n ≡ length es → n + length (told_by t) ≤ length out₀
     → sets (es ++ drop n out₀) n (told_by t) ≡ (es ++ told_by t) ++ drop (n + length (told_by t)) out₀
-one-stored Nothing es out₀ n p h = rw (add-zero n, append-nil es)
-one-stored (Event e) es out₀ n p h =
+one-stored None es out₀ n p h = rw (add-zero n, append-nil es)
+one-stored (Some e) es out₀ n p h =
     rw (drop-cons out₀ n 0 (omega (arith, h))) (set_at es (get_or out₀ n 0) (drop (suc n) out₀) e n (sym p))
     ∙ sym (append_assoc es (e ∷ []) (drop (suc n) out₀))
     ∙ ap (λ (k : ℕ). (es ++ (e ∷ [])) ++ drop k out₀) (sym (add-one n))
 
-abbrev fed : Wires → ℕ → ℕ → ℕ → Fed
+abbrev fed : Wires → ℕ → ℕ → ℕ → Answer
 fed w i n q = record { wires = w; consumed = i; written = n; refusal = q }
 
 fed-same : {w w' : Wires} {n n' q q' : ℕ} (i : ℕ) → w ≡ w' → n ≡ n' → q ≡ q' → fed w i n q ≡ fed w' i n' q'
@@ -68,7 +66,7 @@ module _ (w₀ : Wires) (ss out₀ : List ℕ) where
       }
 
   -- what the answer and the buffer are where the loop ends
-  pub record Ended (f : Fed) (out : List ℕ) : Type 0 where
+  pub record Ended (f : Answer) (out : List ℕ) : Type 0 where
     pub answer : f ≡ answer_of (as_much_as_fits (length out₀) w₀ ss)
     pub leaves : out ≡ stored (as_much_as_fits (length out₀) w₀ ss).events out₀
 
@@ -106,12 +104,12 @@ module _ (w₀ : Wires) (ss out₀ : List ℕ) where
       one_more : take (i + 1) ss ≡ take i ss ++ (get_or ss i 0 ∷ [])
       one_more = ap (λ (k : ℕ). take k ss) (add-one i) ∙ take-suc ss i 0 h
 
-      -- the next event has no room
-      pub short : fits r.told (length out - n) ≡ false → Ended (fed w i n 15) out
+      -- the next event has no room, and k samples were consumed
+      pub short : fits r.told (length out - n) ≡ false → (k : ℕ) → k ≡ i → Ended (fed w k n 15) out
       unfolding fitting
-      short f =
+      short f k c =
           let none : fitting (length out₀ - n) w (drop i ss) ≡ 0 = rw (next, ← e, ← same_length, f) refl in
-          ended 15 (s.left ∙ omega (arith, none)) (rw (ne_eqb i (length ss) (λ q. omega (arith, q, h))) refl)
+          rw c (ended 15 (s.left ∙ omega (arith, none)) (rw (ne_eqb i (length ss) (λ q. omega (arith, q, h))) refl))
 
       module _ (f : fits r.told (length out - n) ≡ true) where
         pub has_room : n + length (told_by r.told) ≤ length out
@@ -149,41 +147,7 @@ module _ (w₀ : Wires) (ss out₀ : List ℕ) where
   -- ---- the last sample again
 
   -- one is consumed, and all else is as it was
-  one_again : {i n : ℕ} {w : Wires} {out : List ℕ} → SoFar i n w out → i < length ss → get_or ss i 0 ≡ w.last → SoFar (i + 1) n w out
+  pub one_again : {i n : ℕ} {w : Wires} {out : List ℕ} → SoFar i n w out → i < length ss → get_or ss i 0 ≡ w.last → SoFar (i + 1) n w out
   one_again {i} {n} {w} {out} s h e =
-      let same : sampled w Nothing ≡ sample_of w (get_or ss i 0) = sym (seen-again w) ∙ ap (sample_of w) (sym e) in
-      (put_on s h (sampled w Nothing) same refl n out refl (sym (add-zero n))).1
-
-  pub all-again :
-      {i n : ℕ} {w : Wires} {out : List ℕ} (rest : List ℕ) → rest ≡ drop i ss → i ≤ length ss → SoFar i n w out
-      → (i + repeats w.last rest ≤ length ss) × SoFar (i + repeats w.last rest) n w out
-  unfolding repeats
-  all-again {i} {n} {w} {out} [] e h s = rw (add-zero i) (h, s)
-  all-again {i} {n} {w} {out} (x ∷ rest) e h s = go (eqb x w.last) refl (λ h' s' e'. all-again {i = i + 1} rest e' h' s')
-    where
-      inside : i < length ss
-      inside = omega (arith, ap length e, length-drop i ss)
-
-      first : x ∷ rest ≡ get_or ss i 0 ∷ drop (i + 1) ss
-      first = e ∙ drop-next ss i inside
-
-      go :
-          (t : Bool) → eqb x w.last ≡ t
-          → (i + 1 ≤ length ss → SoFar (i + 1) n w out → rest ≡ drop (i + 1) ss
-          → (i + 1 + repeats w.last rest ≤ length ss) × SoFar (i + 1 + repeats w.last rest) n w out)
-          → (i + cond t (suc (repeats w.last rest)) 0 ≤ length ss) × SoFar (i + cond t (suc (repeats w.last rest)) 0) n w out
-      go false q ih = rw (add-zero i) (h, s)
-      go true q ih =
-          let is : x ≡ get_or ss i 0 = ap (λ (l : List ℕ). get_or l 0 0) first in
-          let tail : rest ≡ drop (i + 1) ss = ap (λ (l : List ℕ). drop 1 l) first in
-          let more = ih (omega (arith, inside)) (one_again s inside (sym is ∙ eqb-true x w.last q)) tail in
-          let next : i + suc (repeats w.last rest) ≡ i + 1 + repeats w.last rest = omega arith in
-          rw next more
-
-  -- up to the place that was found, the last sample being known by another name
-  pub skipped :
-      {i n : ℕ} {w : Wires} {out : List ℕ} → SoFar i n w out → i ≤ length ss → (last at : ℕ) → w.last ≡ last
-      → at ≡ i + repeats last (drop i ss) → (i ≤ at) × ((at ≤ length ss) × SoFar at n w out)
-  skipped {i} s h last at l e =
-      let all = all-again (drop i ss) refl h s in
-      rw (e, ← l) (omega arith, all)
+      let same : sampled w None ≡ sample_of w (get_or ss i 0) = sym (seen-again w) ∙ ap (sample_of w) (sym e) in
+      (put_on s h (sampled w None) same refl n out refl (sym (add-zero n))).1

@@ -1,9 +1,8 @@
 -- Samples in order: the events that they tell, the wires after them, and what a call comes to that has room for so many events (document 02, W7).
-use Rattle.std.specs.Prelude.{Bool, true, cond, ◌&&◌, List, [], ◌∷◌, ◌++◌, ℕ, zero, suc, ◌-◌, eqb, leb, ltb, length, take, drop}
+use Rattle.std.specs.Prelude.{Bool, true, cond, ◌&&◌, Option, None, Some, List, [], ◌∷◌, ◌++◌, ℕ, zero, suc, ◌-◌, eqb, leb, ltb, length, take, drop}
 use Rattle.wire_samples.specs.declared.Wires.{Wires}
 use Rattle.wire_samples.specs.declared.Fed.{Fed}
-use Rattle.wire_samples.specs.declared.sample.Told.{Told}
-use Rattle.wire_samples.specs.declared.sample.Told.TheVariants.{Nothing, Event}
+use Rattle.refusals.specs.Numbers.{number_of}
 use Rattle.wire_samples.specs.Sample.{sample_of, told_by}
 
 -- ---- all of them
@@ -27,20 +26,15 @@ events_of w (s ∷ ss) = events_at w s ++ events_of (after_sample w s) ss
 -- ---- as many as there is room for
 
 -- what one sample tells has room
-abbrev pub fits : Told → ℕ → Bool
-fits Nothing room = true
-fits (Event e) room = ltb 0 room
+abbrev pub fits : Option ℕ → ℕ → Bool
+fits None room = true
+fits (Some e) room = ltb 0 room
 
 -- how many samples come before the first event that has no room; all, where every event has
 unfoldable pub fitting : ℕ → Wires → List ℕ → ℕ
 fitting room w [] = 0
 fitting room w (s ∷ ss) =
     cond (fits (sample_of w s).told room) (suc (fitting (room - length (events_at w s)) (after_sample w s) ss)) 0
-
--- how many samples at the front are this one again
-unfoldable pub repeats : ℕ → List ℕ → ℕ
-repeats last [] = 0
-repeats last (s ∷ ss) = cond (eqb s last) (suc (repeats last ss)) 0
 
 -- ---- the call
 
@@ -77,8 +71,17 @@ unless_refused (suc k) w f = record { wires = w; consumed = 0; events = []; refu
 unfoldable pub feed_of : ℕ → Wires → List ℕ → Feed
 feed_of room w ss = unless_refused (refusal_of w ss) w (as_much_as_fits room w ss)
 
--- what the call hands back beside the events
-abbrev pub answer_of : Feed → Fed
+-- what the call hands back beside the events, with the number of the refusal
+pub record Answer : Type 0 where
+  pub wires : Wires
+  pub consumed : ℕ
+  pub written : ℕ
+  pub refusal : ℕ
+
+abbrev pub answered : Fed → Answer
+answered f = record { wires = f.wires; consumed = f.consumed; written = f.written; refusal = number_of f.refusal }
+
+abbrev pub answer_of : Feed → Answer
 answer_of f = record { wires = f.wires; consumed = f.consumed; written = length f.events; refusal = f.refusal }
 
 -- and what it leaves of the buffer: the events at its start, the rest as it was

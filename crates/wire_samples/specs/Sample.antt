@@ -1,13 +1,11 @@
 -- What one sample does to what is kept of the wires, and which bus event it tells, if any (document 02, W7). The numbers of events are document 01's:
 -- 0 to 255 a byte, 256 START, 257 STOP, 258 and 259 a byte read, by its acknowledge bit.
-use Rattle.std.specs.Prelude.{Bool, true, false, cond, List, [], ◌∷◌, ℕ, ◌+◌, ◌*◌, ◌%◌, eqb, ltb}
+use Rattle.std.specs.Prelude.{Bool, true, false, cond, Option, None, Some, List, [], ◌∷◌, ℕ, ◌+◌, ◌*◌, ◌%◌, eqb, ltb}
 use Rattle.wire_samples.specs.declared.Stage.{Stage}
 use Rattle.wire_samples.specs.declared.Stage.TheVariants.{Outside, Waiting, First, Writing, Reading}
 use Rattle.wire_samples.specs.declared.Wires.{Wires}
 use Rattle.wire_samples.specs.declared.signal.Signal.{Signal}
 use Rattle.wire_samples.specs.declared.signal.Signal.TheVariants.{Quiet, Start, Stop, Bit, Unclear}
-use Rattle.wire_samples.specs.declared.sample.Told.{Told}
-use Rattle.wire_samples.specs.declared.sample.Told.TheVariants.{Nothing, Event}
 use Rattle.wire_samples.specs.declared.sample.Sampled.{Sampled}
 use Rattle.wire_samples.specs.Signal.{signal_of}
 
@@ -18,17 +16,17 @@ wires u l st k v = record { unclear = u; last = l; stage = st; bits = k; value =
 abbrev pub at_start : Wires
 at_start = wires 0 3 Outside 0 0
 
-abbrev pub sampled : Wires → Told → Sampled
+abbrev pub sampled : Wires → Option ℕ → Sampled
 sampled w t = record { wires = w; told = t }
 
 -- ---- a signal
 
 -- all stays but the sample
 abbrev pub quiet : Wires → ℕ → Sampled
-quiet w s = sampled (wires w.unclear s w.stage w.bits w.value) Nothing
+quiet w s = sampled (wires w.unclear s w.stage w.bits w.value) None
 
 -- at this stage with no bit taken: bits before are dropped
-abbrev pub anew : Wires → ℕ → Stage → Told → Sampled
+abbrev pub anew : Wires → ℕ → Stage → Option ℕ → Sampled
 anew w s st t = sampled (wires w.unclear s st 0 0) t
 
 -- no further than 2^64 - 1
@@ -36,7 +34,7 @@ abbrev pub counted_up : ℕ → ℕ
 counted_up n = cond (eqb n 18446744073709551615) n (n + 1)
 
 abbrev pub on_unclear : Wires → ℕ → Sampled
-on_unclear w s = sampled (wires (counted_up w.unclear) s Waiting 0 0) Nothing
+on_unclear w s = sampled (wires (counted_up w.unclear) s Waiting 0 0) None
 
 abbrev pub is_waiting : Stage → Bool
 is_waiting Outside = false
@@ -47,7 +45,7 @@ is_waiting Reading = false
 
 -- told, but not while START is waited for
 unfoldable pub on_stop : Wires → ℕ → Sampled
-on_stop w s = cond (is_waiting w.stage) (anew w s Waiting Nothing) (anew w s Outside (Event 257))
+on_stop w s = cond (is_waiting w.stage) (anew w s Waiting None) (anew w s Outside (Some 257))
 
 -- ---- a bit
 
@@ -86,10 +84,10 @@ event_of Writing v b = v
 event_of Reading v b = read_event b
 
 abbrev pub one_bit_more : Wires → ℕ → Bool → Sampled
-one_bit_more w s b = sampled (wires w.unclear s w.stage (w.bits + 1) (with_bit w.value b)) Nothing
+one_bit_more w s b = sampled (wires w.unclear s w.stage (w.bits + 1) (with_bit w.value b)) None
 
 abbrev pub byte_done : Wires → ℕ → Bool → Sampled
-byte_done w s b = anew w s (stage_after w.stage w.value) (Event (event_of w.stage w.value b))
+byte_done w s b = anew w s (stage_after w.stage w.value) (Some (event_of w.stage w.value b))
 
 -- eight bits, and the ninth ends the byte
 unfoldable pub on_bit : Wires → ℕ → Bool → Sampled
@@ -99,7 +97,7 @@ on_bit w s b = cond (in_message w.stage) (cond (ltb w.bits 8) (one_bit_more w s 
 
 unfoldable pub on_signal : Wires → ℕ → Signal → Sampled
 on_signal w s Quiet = quiet w s
-on_signal w s Start = anew w s First (Event 256)
+on_signal w s Start = anew w s First (Some 256)
 on_signal w s Stop = on_stop w s
 on_signal w s (Bit b) = on_bit w s b
 on_signal w s Unclear = on_unclear w s
@@ -108,6 +106,6 @@ unfoldable pub sample_of : Wires → ℕ → Sampled
 sample_of w s = on_signal w s (signal_of w.last s)
 
 -- the events told, none or one
-abbrev pub told_by : Told → List ℕ
-told_by Nothing = []
-told_by (Event e) = e ∷ []
+abbrev pub told_by : Option ℕ → List ℕ
+told_by None = []
+told_by (Some e) = e ∷ []

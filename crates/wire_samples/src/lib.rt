@@ -3,7 +3,9 @@
 
 ghost use Rattle.std.specs.Prelude.{◌≡◌, length};
 ghost use Rattle.wire_samples.specs.Sample.{at_start};
-ghost use Rattle.wire_samples.specs.Feed.{feed_of, answer_of, stored};
+ghost use Rattle.wire_samples.specs.Feed.{feed_of, answer_of, answered, stored};
+
+use refusals::Refusal;
 
 mod part;
 pub mod refusal;
@@ -11,7 +13,7 @@ mod sample;
 mod signal;
 
 // Where in a message the wires are.
-#[derive(Clone, Copy)]
+#[derive(Clone, Copy, Debug, PartialEq, Eq)]
 pub enum Stage {
     // outside START to STOP
     Outside,
@@ -27,7 +29,7 @@ pub enum Stage {
 
 // What is kept from one sample to the next: how many samples were unclear, the last sample, the stage, how many bits of the present byte were taken,
 // and their value.
-#[derive(Clone, Copy)]
+#[derive(Clone, Copy, Debug, PartialEq, Eq)]
 pub struct Wires {
     pub unclear: u64,
     pub last: u8,
@@ -36,13 +38,13 @@ pub struct Wires {
     pub value: u8,
 }
 
-// How many samples were consumed, how many events written, the refusal or 0, and the wires after those samples.
-#[derive(Clone, Copy)]
+// How many samples were consumed, how many events written, the refusal, if any, and the wires after those samples.
+#[derive(Clone, Copy, Debug, PartialEq, Eq)]
 pub struct Fed {
     pub wires: Wires,
     pub consumed: usize,
     pub written: usize,
-    pub refusal: u8,
+    pub refusal: Option<Refusal>,
 }
 
 // What the first sample is held against: two high lines, and no message open.
@@ -60,17 +62,16 @@ pub fn start() -> Wires
 
 // The events of the samples, written from the buffer's first word on, up to the first that has no room.
 pub fn feed(wires: Wires, samples: &[u8], events: &mut [u16]) -> Fed
-    ensures value { result ≡ answer_of (feed_of (length events.old) wires samples.now) }
+    ensures value { answered result ≡ answer_of (feed_of (length events.old) wires samples.now) }
     ensures events_after { events.new
         ≡ stored (feed_of (length events.old) wires samples.now).events events.old }
 {
-    let refusal = refusal::of_samples(wires, samples);
-    if refusal != 0 {
+    if let Err(refusal) = refusal::of_samples(wires, samples) {
         return Fed {
             wires,
             consumed: 0,
             written: 0,
-            refusal,
+            refusal: Some(refusal),
         };
     }
     part::read(wires, samples, events)

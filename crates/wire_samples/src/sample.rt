@@ -7,41 +7,36 @@ ghost use Rattle.wire_samples.specs.Sample.{read_event, event_of, byte_done, on_
 use crate::signal::Signal;
 use crate::{Stage, Wires};
 
-#[derive(Clone, Copy)]
-pub enum Told {
-    Nothing,
-    Event(u16),
-}
-
-#[derive(Clone, Copy)]
+#[derive(Clone, Copy, Debug, PartialEq, Eq)]
 pub struct Sampled {
     pub wires: Wires,
-    pub told: Told,
+    pub told: Option<u16>,
 }
 
 // All stays but the sample.
 fn quiet(wires: Wires, sample: u8) -> Sampled
     ensures { result ≡ spec.quiet wires sample }
 {
-    let mut next = wires;
-    next.last = sample;
     Sampled {
-        wires: next,
-        told: Told::Nothing,
+        wires: Wires {
+            last: sample,
+            ..wires
+        },
+        told: None,
     }
 }
 
 // At this stage with no bit taken.
-fn anew(wires: Wires, sample: u8, stage: Stage, told: Told) -> Sampled
+fn anew(wires: Wires, sample: u8, stage: Stage, told: Option<u16>) -> Sampled
     ensures { result ≡ spec.anew wires sample stage told }
 {
     Sampled {
         wires: Wires {
-            unclear: wires.unclear,
             last: sample,
             stage,
             bits: 0,
             value: 0,
+            ..wires
         },
         told,
     }
@@ -51,68 +46,47 @@ fn anew(wires: Wires, sample: u8, stage: Stage, told: Told) -> Sampled
 fn counted_up(n: u64) -> u64
     ensures { result ≡ counted_up n }
 {
-    if n == u64::MAX {
-        return n;
-    }
-    n + 1
+    n.saturating_add(1)
 }
 
 fn on_unclear(wires: Wires, sample: u8) -> Sampled
     ensures { result ≡ on_unclear wires sample }
 {
-    Sampled {
-        wires: Wires {
-            unclear: counted_up(wires.unclear),
-            last: sample,
-            stage: Stage::Waiting,
-            bits: 0,
-            value: 0,
-        },
-        told: Told::Nothing,
-    }
+    let counted = Wires {
+        unclear: counted_up(wires.unclear),
+        ..wires
+    };
+    anew(counted, sample, Stage::Waiting, None)
 }
 
 fn is_waiting(stage: Stage) -> bool
     ensures { result ≡ is_waiting stage }
 {
-    match stage {
-        Stage::Outside => false,
-        Stage::Waiting => true,
-        Stage::First => false,
-        Stage::Writing => false,
-        Stage::Reading => false,
-    }
+    matches!(stage, Stage::Waiting)
 }
 
 // Told, but not while START is waited for.
+#[tactic(auto, unfolding(crate::specs::Sample::on_stop))]
 fn on_stop(wires: Wires, sample: u8) -> Sampled
     ensures { result ≡ on_stop wires sample }
 {
-    let stage = wires.stage;
-    if is_waiting(stage) {
-        return anew(wires, sample, Stage::Waiting, Told::Nothing);
+    if is_waiting(wires.stage) {
+        return anew(wires, sample, Stage::Waiting, None);
     }
-    anew(wires, sample, Stage::Outside, Told::Event(257))
+    anew(wires, sample, Stage::Outside, Some(257))
 }
 
 fn in_message(stage: Stage) -> bool
     ensures { result ≡ in_message stage }
 {
-    match stage {
-        Stage::Outside => false,
-        Stage::Waiting => false,
-        Stage::First => true,
-        Stage::Writing => true,
-        Stage::Reading => true,
-    }
+    matches!(stage, Stage::First | Stage::Writing | Stage::Reading)
 }
 
 // The high bit comes first.
 fn with_bit(value: u8, bit: bool) -> u8
     ensures { result ≡ with_bit value bit }
 {
-    let shifted = value % 128 * 2;
-    if bit { shifted + 1 } else { shifted }
+    value % 128 * 2 + u8::from(bit)
 }
 
 // What the low bit of a first byte says of those that follow.
@@ -131,11 +105,8 @@ fn stage_after(stage: Stage, value: u8) -> Stage
     ensures { result ≡ stage_after stage value }
 {
     match stage {
-        Stage::Outside => Stage::Outside,
-        Stage::Waiting => Stage::Waiting,
         Stage::First => direction(value),
-        Stage::Writing => Stage::Writing,
-        Stage::Reading => Stage::Reading,
+        _ => stage,
     }
 }
 
@@ -150,60 +121,56 @@ fn event_of(stage: Stage, value: u8, bit: bool) -> u16
     ensures { result ≡ event_of stage value bit }
 {
     match stage {
-        Stage::Outside => value as u16,
-        Stage::Waiting => value as u16,
-        Stage::First => value as u16,
-        Stage::Writing => value as u16,
         Stage::Reading => read_event(bit),
+        _ => u16::from(value),
     }
 }
 
 fn byte_done(wires: Wires, sample: u8, bit: bool) -> Sampled
     ensures { result ≡ byte_done wires sample bit }
 {
-    let stage = wires.stage;
-    let event = event_of(stage, wires.value, bit);
+    let event = event_of(wires.stage, wires.value, bit);
     anew(
         wires,
         sample,
-        stage_after(stage, wires.value),
-        Told::Event(event),
+        stage_after(wires.stage, wires.value),
+        Some(event),
     )
 }
 
 // Eight bits, and the ninth ends the byte.
+#[tactic(auto, unfolding(crate::specs::Sample::on_bit))]
 fn on_bit(wires: Wires, sample: u8, bit: bool) -> Sampled
     ensures { result ≡ on_bit wires sample bit }
 {
-    let stage = wires.stage;
-    if !in_message(stage) {
+    if !in_message(wires.stage) {
         return quiet(wires, sample);
     }
     if wires.bits < 8 {
-        let mut next = wires;
-        next.last = sample;
-        next.bits = wires.bits + 1;
-        next.value = with_bit(wires.value, bit);
-        return Sampled {
-            wires: next,
-            told: Told::Nothing,
+        let taken = Wires {
+            bits: wires.bits + 1,
+            value: with_bit(wires.value, bit),
+            ..wires
         };
+        return quiet(taken, sample);
     }
     byte_done(wires, sample, bit)
 }
 
+#[tactic(auto, unfolding(crate::specs::Sample::on_signal))]
 fn on_signal(wires: Wires, sample: u8, signal: Signal) -> Sampled
     ensures { result ≡ on_signal wires sample signal }
 {
     match signal {
         Signal::Quiet => quiet(wires, sample),
-        Signal::Start => anew(wires, sample, Stage::First, Told::Event(256)),
+        Signal::Start => anew(wires, sample, Stage::First, Some(256)),
         Signal::Stop => on_stop(wires, sample),
         Signal::Bit(bit) => on_bit(wires, sample, bit),
         Signal::Unclear => on_unclear(wires, sample),
     }
 }
 
+#[tactic(auto, unfolding(crate::specs::Sample::sample_of))]
 pub fn sample(wires: Wires, sample: u8) -> Sampled
     ensures { result ≡ sample_of wires sample }
 {

@@ -30,10 +30,10 @@ fn falls(before: bool, now: bool) -> bool
 fn changes(before: bool, now: bool) -> bool
     ensures { result ≡ changes before now }
 {
-    rises(before, now) | falls(before, now)
+    before != now
 }
 
-#[derive(Clone, Copy)]
+#[derive(Clone, Copy, Debug, PartialEq, Eq)]
 pub enum Signal {
     // nothing that counts
     Quiet,
@@ -45,6 +45,7 @@ pub enum Signal {
     Unclear,
 }
 
+#[tactic(auto, unfolding(crate::specs::Signal::signal_of))]
 pub fn between(before: u8, sample: u8) -> Signal
     ensures { result ≡ signal_of before sample }
 {

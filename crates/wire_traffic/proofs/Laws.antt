@@ -8,7 +8,7 @@ use lib.ListN.{length}
 use Rattle.wire_samples.specs.declared.Stage.TheVariants.{Outside, Waiting, First}
 use Rattle.wire_samples.specs.declared.Wires.{Wires}
 use Rattle.wire_samples.specs.declared.signal.Signal.TheVariants.{Quiet, Start, Stop, Bit, Unclear}
-use Rattle.wire_samples.specs.declared.sample.Told.TheVariants.{Nothing, Event}
+use Rattle.std.specs.Prelude.{None, Some}
 use Rattle.wire_samples.specs.Signal.{both_change, signal_of}
 use Rattle.wire_samples.specs.Sample.{at_start, anew, is_waiting, on_stop, on_signal, sample_of}
 use Rattle.wire_samples.specs.Feed.{after_sample, events_at, after_all, events_of, consuming, refusal_of, feed_of}
@@ -70,16 +70,16 @@ sixteen-signals = refl
 
 module _ (w : Wires) (s : ℕ) where
   -- at every state START is told, and opens a first byte with no bit taken
-  pub start-law : signal_of w.last s ≡ Start → sample_of w s ≡ anew w s First (Event 256)
+  pub start-law : signal_of w.last s ≡ Start → sample_of w s ≡ anew w s First (Some 256)
   unfolding sample_of on_signal
   start-law e = rw e refl
 
   -- STOP is told, and ends the message; while START is waited for it tells nothing, and does not end the waiting. No bit stays taken
-  pub stop-law : signal_of w.last s ≡ Stop → is_waiting w.stage ≡ false → sample_of w s ≡ anew w s Outside (Event 257)
+  pub stop-law : signal_of w.last s ≡ Stop → is_waiting w.stage ≡ false → sample_of w s ≡ anew w s Outside (Some 257)
   unfolding sample_of on_signal on_stop
   stop-law e h = rw (e, h) refl
 
-  pub stop-while-waiting : signal_of w.last s ≡ Stop → is_waiting w.stage ≡ true → sample_of w s ≡ anew w s Waiting Nothing
+  pub stop-while-waiting : signal_of w.last s ≡ Stop → is_waiting w.stage ≡ true → sample_of w s ≡ anew w s Waiting None
   unfolding sample_of on_signal on_stop
   stop-while-waiting e h = rw (e, h) refl
 

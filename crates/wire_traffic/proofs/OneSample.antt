@@ -9,7 +9,7 @@ use Rattle.wire_samples.specs.declared.Stage.TheVariants.{Outside, Waiting}
 use Rattle.wire_samples.specs.declared.Wires.{Wires}
 use Rattle.wire_samples.specs.declared.sample.Sampled.{Sampled}
 use Rattle.wire_samples.specs.declared.signal.Signal.TheVariants.{Quiet, Start, Stop, Bit}
-use Rattle.wire_samples.specs.declared.sample.Told.TheVariants.{Nothing, Event}
+use Rattle.std.specs.Prelude.{None, Some}
 use Rattle.wire_samples.specs.Signal.{scl_of, sda_of, rises, falls, changes, on_lines, both_change, signal_of}
 use Rattle.wire_samples.specs.Sample.{quiet, anew, is_waiting, on_stop, in_message, one_bit_more, byte_done, on_bit, on_signal, sample_of, told_by}
 use Rattle.wire_samples.specs.Feed.{after_sample, after_all, events_of}
@@ -28,7 +28,7 @@ module _ (w : Wires) (s : ℕ) where
   unfolding on_stop
   stop-kept = go (is_waiting w.stage)
     where
-      go : (t : Bool) → Kept (cond t (anew w s Waiting Nothing) (anew w s Outside (Event 257))).wires
+      go : (t : Bool) → Kept (cond t (anew w s Waiting None) (anew w s Outside (Some 257))).wires
       go true = record { last = refl; unclear = refl }
       go false = record { last = refl; unclear = refl }
 

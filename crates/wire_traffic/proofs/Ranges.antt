@@ -12,8 +12,7 @@ use Rattle.wire_samples.specs.declared.Stage.TheVariants.{Outside, Waiting, Firs
 use Rattle.wire_samples.specs.declared.Wires.{Wires}
 use Rattle.wire_samples.specs.declared.signal.Signal.{Signal}
 use Rattle.wire_samples.specs.declared.signal.Signal.TheVariants.{Quiet, Start, Stop, Bit, Unclear}
-use Rattle.wire_samples.specs.declared.sample.Told.{Told}
-use Rattle.wire_samples.specs.declared.sample.Told.TheVariants.{Nothing, Event}
+use Rattle.std.specs.Prelude.{Option, None, Some}
 use Rattle.wire_samples.specs.Signal.{signal_of}
 use Rattle.wire_samples.specs.Sample.{at_start, quiet, anew, is_waiting, on_stop, in_message, with_bit, one_bit_more, stage_after, event_of, byte_done, on_bit, on_signal, sample_of}
 use Rattle.wire_samples.specs.Feed.{after_sample, after_all, unless_refused, refusal_of, fitting, as_much_as_fits, feed_of}
@@ -28,7 +27,7 @@ with-bit-in-range v true = omega arith
 with-bit-in-range v false = omega arith
 
 module _ (w : Wires) (r : InRanges w) (s : ℕ) (h : s ≤ 3) where
-  at_stage : (st : Stage) (t : Told) → InRanges (anew w s st t).wires
+  at_stage : (st : Stage) (t : Option ℕ) → InRanges (anew w s st t).wires
   at_stage st t = record { last = h; bits = omega arith; value = omega arith }
 
   kept : InRanges (quiet w s).wires
@@ -40,7 +39,7 @@ module _ (w : Wires) (r : InRanges w) (s : ℕ) (h : s ≤ 3) where
     where
       go : (t u : Bool) → ltb w.bits 8 ≡ u → InRanges (cond t (cond u (one_bit_more w s b) (byte_done w s b)) (quiet w s)).wires
       go false u e = kept
-      go true false e = at_stage (stage_after w.stage w.value) (Event (event_of w.stage w.value b))
+      go true false e = at_stage (stage_after w.stage w.value) (Some (event_of w.stage w.value b))
       go true true e =
           record { last = h; bits = omega (arith, ltb-true w.bits 8 e); value = with-bit-in-range w.value b }
 
@@ -48,14 +47,14 @@ module _ (w : Wires) (r : InRanges w) (s : ℕ) (h : s ≤ 3) where
   unfolding on_stop
   on-stop = go (is_waiting w.stage)
     where
-      go : (t : Bool) → InRanges (cond t (anew w s Waiting Nothing) (anew w s Outside (Event 257))).wires
-      go true = at_stage Waiting Nothing
-      go false = at_stage Outside (Event 257)
+      go : (t : Bool) → InRanges (cond t (anew w s Waiting None) (anew w s Outside (Some 257))).wires
+      go true = at_stage Waiting None
+      go false = at_stage Outside (Some 257)
 
   on-signal : (g : Signal) → InRanges (on_signal w s g).wires
   unfolding on_signal
   on-signal Quiet = kept
-  on-signal Start = at_stage First (Event 256)
+  on-signal Start = at_stage First (Some 256)
   on-signal Stop = on-stop
   on-signal (Bit b) = on-bit b
   on-signal Unclear =

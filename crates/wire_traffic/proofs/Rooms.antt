@@ -12,8 +12,7 @@ use lib.ListN.{length, take, get_or, length-append}
 use lib.Seq.{take-length}
 use Rattle.text.proofs.Numbers.{and_both}
 use Rattle.wire_samples.specs.declared.Wires.{Wires}
-use Rattle.wire_samples.specs.declared.sample.Told.{Told}
-use Rattle.wire_samples.specs.declared.sample.Told.TheVariants.{Nothing, Event}
+use Rattle.std.specs.Prelude.{Option, None, Some}
 use Rattle.wire_samples.specs.Sample.{sample_of, told_by}
 use Rattle.wire_samples.specs.Feed.{after_sample, events_at, after_all, events_of, fits, fitting, is_allowed, are_samples, refusal_of, consuming, as_much_as_fits, unless_refused, Feed, feed_of}
 use Rattle.wire_traffic.specs.When.{Allowed, Samples, Above, need, When}
@@ -21,9 +20,9 @@ use Rattle.wire_traffic.specs.When.When.{state, sample, short, none}
 
 -- ---- how many events
 
-told-bound : (t : Told) → length (told_by t) ≤ 1
-told-bound Nothing = omega arith
-told-bound (Event e) = omega arith
+told-bound : (t : Option ℕ) → length (told_by t) ≤ 1
+told-bound None = omega arith
+told-bound (Some e) = omega arith
 
 -- a sample tells one at most, so that a buffer as long as the samples is never too short
 pub one_each : (w : Wires) (ss : List ℕ) → need w ss ≤ length ss
@@ -45,11 +44,11 @@ all_fit room w [] h = refl
 all_fit room w (s ∷ ss) h = go (sample_of w s).told h (λ k. all_fit k (after_sample w s) ss)
   where
     go :
-        (t : Told) → length (told_by t ++ events_of (after_sample w s) ss) ≤ room
+        (t : Option ℕ) → length (told_by t ++ events_of (after_sample w s) ss) ≤ room
         → ((k : ℕ) → need (after_sample w s) ss ≤ k → fitting k (after_sample w s) ss ≡ length ss)
         → cond (fits t room) (suc (fitting (room - length (told_by t)) (after_sample w s) ss)) 0 ≡ suc (length ss)
-    go Nothing h ih = rw (sub-zero room) (ap suc (ih room h))
-    go (Event e) h ih = rw (lt-ltb 0 room (omega (arith, h))) (ap suc (ih (room - 1) (omega (arith, h))))
+    go None h ih = rw (sub-zero room) (ap suc (ih room h))
+    go (Some e) h ih = rw (lt-ltb 0 room (omega (arith, h))) (ap suc (ih (room - 1) (omega (arith, h))))
 
 pub fit-within : (room : ℕ) (w : Wires) (ss : List ℕ) → fitting room w ss ≤ length ss
 unfolding fitting
@@ -73,14 +72,14 @@ some_fit room w [] h = absurd (omega (arith, h))
 some_fit room w (s ∷ ss) h = go room (sample_of w s).told refl h (λ k. some_fit k (after_sample w s) ss)
   where
     go :
-        (r : ℕ) (t : Told) → (sample_of w s).told ≡ t → r < length (told_by t ++ events_of (after_sample w s) ss)
+        (r : ℕ) (t : Option ℕ) → (sample_of w s).told ≡ t → r < length (told_by t ++ events_of (after_sample w s) ss)
         → ((k : ℕ) → k < need (after_sample w s) ss → Full k (after_sample w s) ss (fitting k (after_sample w s) ss))
         → Full r w (s ∷ ss) (cond (fits t r) (suc (fitting (r - length (told_by t)) (after_sample w s) ss)) 0)
-    go r Nothing e h ih =
+    go r None e h ih =
         let rest = ih r h in
         rw (sub-zero r) (record { inside = omega (arith, rest.inside); full = rw e rest.full; next = rest.next })
-    go zero (Event x) e h ih = record { inside = omega arith; full = refl; next = rw e refl }
-    go (suc r) (Event x) e h ih =
+    go zero (Some x) e h ih = record { inside = omega arith; full = refl; next = rw e refl }
+    go (suc r) (Some x) e h ih =
         let rest = ih r (omega (arith, h)) in
         let less : suc r - 1 ≡ r = omega arith in
         rw (lt-ltb 0 (suc r) (omega arith), less)

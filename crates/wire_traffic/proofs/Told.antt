@@ -11,7 +11,7 @@ use Rattle.wire_samples.specs.declared.Stage.TheVariants.{Outside, Waiting, Firs
 use Rattle.wire_samples.specs.declared.Wires.{Wires}
 use Rattle.wire_samples.specs.declared.signal.Signal.{Signal}
 use Rattle.wire_samples.specs.declared.signal.Signal.TheVariants.{Quiet, Start, Stop, Bit, Unclear}
-use Rattle.wire_samples.specs.declared.sample.Told.TheVariants.{Nothing, Event}
+use Rattle.std.specs.Prelude.{None, Some}
 use Rattle.wire_samples.specs.declared.sample.Sampled.{Sampled}
 use Rattle.wire_samples.specs.Signal.{signal_of}
 use Rattle.wire_samples.specs.Sample.{quiet, anew, is_waiting, on_stop, in_message, stage_after, event_of}
@@ -59,8 +59,8 @@ record Follows (st : Stage) (w : Wires) : Type 0 where
 
 -- what a sample tells can be told, and the wires after it follow
 data Goes (st : Stage) (r : Sampled) : Type 0 where
-  nothing : r.told ≡ Nothing → Follows st r.wires → Goes st r
-  event : (e : ℕ) → r.told ≡ Event e → Next e st → Follows (stage_told st e) r.wires → Goes st r
+  nothing : r.told ≡ None → Follows st r.wires → Goes st r
+  event : (e : ℕ) → r.told ≡ Some e → Next e st → Follows (stage_told st e) r.wires → Goes st r
 
 byte_next :
     (st : Stage) (v : ℕ) (b : Bool) → in_message st ≡ true → v ≤ 255
@@ -77,7 +77,7 @@ module _ (st : Stage) (w : Wires) (f : Follows st w) (s : ℕ) where
   unfolding on_stop
   stop_goes = go (is_waiting w.stage) refl f.stage
     where
-      go : (t : Bool) → is_waiting w.stage ≡ t → Stands st w.stage → Goes st (cond t (anew w s Waiting Nothing) (anew w s Outside (Event 257)))
+      go : (t : Bool) → is_waiting w.stage ≡ t → Stands st w.stage → Goes st (cond t (anew w s Waiting None) (anew w s Outside (Some 257)))
       go true e p = nothing refl (record { stage = waits refl; value = omega arith })
       go false e (there q) = event 257 refl (is_stop (ap is_waiting (sym q) ∙ e) refl) (record { stage = there refl; value = omega arith })
       go false e (waits q) = absurd (subst T (ap is_waiting (sym q) ∙ e) tt)
@@ -87,7 +87,7 @@ module _ (st : Stage) (w : Wires) (f : Follows st w) (s : ℕ) where
       let next = byte_next st w.value b (ap in_message (sym q) ∙ m) f.value in
       event
       (event_of st w.value b)
-      (ap (λ (x : Stage). Event (event_of x w.value b)) q)
+      (ap (λ (x : Stage). Some (event_of x w.value b)) q)
       next.0
       (record { stage = there (ap (λ (x : Stage). stage_after x w.value) q ∙ stage-after st w.value ∙ sym next.1); value = omega arith })
   done-goes b m (waits q) = absurd (subst T (sym (ap in_message (sym q) ∙ m)) tt)

@@ -13,7 +13,7 @@ use Rattle.wire_samples.specs.declared.Stage.{Stage}
 use Rattle.wire_samples.specs.declared.Stage.TheVariants.{Outside, Waiting, First, Writing, Reading}
 use Rattle.wire_samples.specs.declared.Wires.{Wires}
 use Rattle.wire_samples.specs.Sample.{wires}
-use Rattle.wire_words.specs.declared.words.Read.TheVariants.{State, NoState}
+use Rattle.std.specs.Prelude.{None, Some}
 use Rattle.wire_words.specs.Words.{state_length, stands_for, IsState, stage_of, stage_number, wires_of, words_of, read_of}
 
 -- what holds of five words spelled out holds of every list of that length
@@ -80,18 +80,18 @@ wires-words-wires w = ap (λ (st : Stage). wires w.unclear w.last st w.bits w.va
 -- ---- reading
 
 module _ (ws : List ℕ) where
-  pub read-state-exactly : (w : Wires) → (read_of ws ≡ State w) ↔ ((stands_for ws ≡ true) × (w ≡ wires_of ws))
+  pub read-state-exactly : (w : Wires) → (read_of ws ≡ Some w) ↔ ((stands_for ws ≡ true) × (w ≡ wires_of ws))
   unfolding read_of
   read-state-exactly w = (there (stands_for ws) refl, λ (h, e). rw (h, e))
     where
-      there : (t : Bool) → stands_for ws ≡ t → cond t (State (wires_of ws)) NoState ≡ State w → (stands_for ws ≡ true) × (w ≡ wires_of ws)
+      there : (t : Bool) → stands_for ws ≡ t → cond t (Some (wires_of ws)) None ≡ Some w → (stands_for ws ≡ true) × (w ≡ wires_of ws)
       there true h e = (h, cc)
       there false h e = let z : ◌≡◌ {A = ℕ} 0 1 = cc in absurd (omega arith)
 
-  pub read-none-exactly : (read_of ws ≡ NoState) ↔ (stands_for ws ≡ false)
+  pub read-none-exactly : (read_of ws ≡ None) ↔ (stands_for ws ≡ false)
   unfolding read_of
   read-none-exactly = (there (stands_for ws) refl, λ h. rw h)
     where
-      there : (t : Bool) → stands_for ws ≡ t → cond t (State (wires_of ws)) NoState ≡ NoState → stands_for ws ≡ false
+      there : (t : Bool) → stands_for ws ≡ t → cond t (Some (wires_of ws)) None ≡ None → stands_for ws ≡ false
       there true h e = let z : ◌≡◌ {A = ℕ} 0 1 = cc in absurd (omega arith)
       there false h e = h

@@ -4,8 +4,7 @@ use Rattle.wire_samples.specs.declared.Stage.{Stage}
 use Rattle.wire_samples.specs.declared.Stage.TheVariants.{Outside, Waiting, First, Writing, Reading}
 use Rattle.wire_samples.specs.declared.Wires.{Wires}
 use Rattle.wire_samples.specs.Sample.{wires}
-use Rattle.wire_words.specs.declared.words.Read.{Read}
-use Rattle.wire_words.specs.declared.words.Read.TheVariants.{State, NoState}
+use Rattle.std.specs.Prelude.{Option, None, Some}
 
 -- where the words stand: unclear samples so far, the last sample, the stage, how many bits of the present byte are taken, and their value
 abbrev pub UNCLEAR : ℕ
@@ -63,5 +62,5 @@ abbrev pub words_of : Wires → List ℕ
 words_of w = w.unclear ∷ w.last ∷ stage_number w.stage ∷ w.bits ∷ w.value ∷ []
 
 -- what reading gives
-unfoldable pub read_of : List ℕ → Read
-read_of ws = cond (stands_for ws) (State (wires_of ws)) NoState
+unfoldable pub read_of : List ℕ → Option Wires
+read_of ws = cond (stands_for ws) (Some (wires_of ws)) None

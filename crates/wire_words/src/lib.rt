@@ -4,17 +4,19 @@
 ghost use Rattle.std.specs.Prelude.{◌≡◌};
 ghost use Rattle.wire_words.specs.Calls.{started, start_call, called, wires_call};
 
-use crate::words::{Read, WORDS};
+use crate::words::WORDS;
+use refusals::Refusal;
 
 mod stage;
 mod words;
 
 // The state before the first sample.
+#[tactic(auto, unfolding(crate::specs::Calls::start_call))]
 pub fn start(state: &mut [u64]) -> u64
     ensures { started result state.new ≡ start_call state.old }
 {
     if state.len() != WORDS {
-        return 2;
+        return u64::from(Refusal::Record.number());
     }
     words::write_state(wire_samples::start(), state);
     0
@@ -32,16 +34,14 @@ pub fn feed(
     ensures { called result state.new events.new consumed.new written.new
         ≡ wires_call state.old samples.now events.old }
 {
-    let found = words::read_state(state);
-    let Read::State(wires) = found else {
+    let Some(wires) = words::read_state(state) else {
         *consumed = 0;
         *written = 0;
-        return 2;
+        return u64::from(Refusal::Record.number());
     };
     let fed = wire_samples::feed(wires, samples, events);
-    let after = fed.wires;
-    words::write_state(after, state);
+    words::write_state(fed.wires, state);
     *consumed = fed.consumed as u64;
     *written = fed.written as u64;
-    fed.refusal as u64
+    u64::from(refusals::number_of(fed.refusal))
 }

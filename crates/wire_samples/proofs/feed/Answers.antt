@@ -1,11 +1,15 @@
-use Rattle.wire_samples.proofs.CodeWays.{refused, accepted}
+use Rattle.wire_samples.proofs.Refused.{refused, accepted}
 use Rattle.wire_samples.proofs.feed.Goals as goal
 
-pub returns-then-refusal-ne0 : goal.returns-then-refusal-ne0
-returns-then-refusal-ne0 c =
-    record { value = (refused _ _ _ _ c.of_samples-refusal.ensures c.if-refusal-ne0.true).0; events_after = (refused _ _ _ _ c.of_samples-refusal.ensures c.if-refusal-ne0.true).1 }
+pub returns-in-Err-clause-value : goal.returns-in-Err-clause-value
+returns-in-Err-clause-value c = (refused _ _ c.args.events.now _ c.in-Err.ensures).value
 
-pub returns : goal.returns
-returns c =
-    let read = c.read.ensures in
-    record { value = (accepted _ _ c.args.events.now c.of_samples-refusal.ensures c.if-refusal-ne0.false _ _ read.value read.events_after).0; events_after = (accepted _ _ c.args.events.now c.of_samples-refusal.ensures c.if-refusal-ne0.false _ _ read.value read.events_after).1 }
+pub returns-in-Err-clause-events_after : goal.returns-in-Err-clause-events_after
+returns-in-Err-clause-events_after c = (refused _ _ c.args.events.now _ c.in-Err.ensures).events_after
+
+pub returns-clause-value : goal.returns-clause-value
+returns-clause-value c = (accepted _ _ c.args.events.now c.in_default.ensures _ _ c.read.ensures.value c.read.ensures.events_after).value
+
+pub returns-clause-events_after : goal.returns-clause-events_after
+returns-clause-events_after c =
+    (accepted _ _ c.args.events.now c.in_default.ensures _ _ c.read.ensures.value c.read.ensures.events_after).events_after

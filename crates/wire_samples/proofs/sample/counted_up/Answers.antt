@@ -1,8 +1,0 @@
-use borrow.Author.Tests.{eq-eqb, ne_eqb}
-use Rattle.wire_samples.proofs.sample.counted_up.Goals as goal
-
-pub returns-then-n-eq18446744073709551615 : goal.returns-then-n-eq18446744073709551615
-returns-then-n-eq18446744073709551615 c = simp (eq-eqb _ _ c.if-n-eq18446744073709551615.true)
-
-pub returns : goal.returns
-returns c = simp (ne_eqb _ _ c.if-n-eq18446744073709551615.false)
