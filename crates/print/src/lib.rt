@@ -177,6 +177,28 @@ pub enum Unprinted {
     Refused(Refusal),
 }
 
+// The number of a whole text's printing: `short` where the output is too short, which each kind of text numbers for itself; 0 where it was printed.
+pub fn number_of(printed: Result<usize, Unprinted>, short: u8) -> u8
+    ensures { result ≡ written_number short (written_of printed) }
+{
+    match printed {
+        Ok(_) => 0,
+        Err(Unprinted::Short { needed: _ }) => short,
+        Err(Unprinted::Refused(refusal)) => refusal.number(),
+    }
+}
+
+// The length of the text that was printed or would need to be.
+pub fn length_of(printed: Result<usize, Unprinted>) -> usize
+    ensures { result ≡ written_length (written_of printed) }
+{
+    match printed {
+        Ok(n) => n,
+        Err(Unprinted::Short { needed }) => needed,
+        Err(Unprinted::Refused(_)) => 0,
+    }
+}
+
 impl From<Refusal> for Unprinted {
     ghost from_gives = { λ refusal e. e ≡ unprinted.Refused refusal };
 

@@ -9,8 +9,11 @@ pub mod reading;
 pub mod words;
 
 ghost use Rattle.std.specs.Prelude.{true, ◌≡◌, ◌≤◌, length};
+ghost use Rattle.print.specs.Printed.{written_length};
+ghost use Rattle.print.specs.Prints.{written_of};
 ghost use Rattle.program_io.specs.Promises.{NothingPromised, Opened};
 
+use print::Unprinted;
 use reading::Source;
 use std::env::FillError;
 use std::fs::File;
@@ -24,6 +27,13 @@ const NAME_TOO_LONG: i32 = 36;
 const NO_SUCH_ARGUMENT: i32 = 22;
 
 const NO_TEXT: i32 = 84;
+
+// Room for N bytes, as for a text or for a part of an input.
+pub fn room<const N: usize>() -> [u8; N]
+    ensures { N ≡ length result }
+{
+    [0; N]
+}
 
 // Room for a line, and for a part of an input.
 pub fn buffer() -> [u8; 4096]
@@ -49,22 +59,32 @@ pub fn tell(rt: &HostRuntime, text: &[u8], n: usize)
     }
 }
 
-// One line on standard error: the program's name, a colon, a blank and the message.
-pub fn say(rt: &HostRuntime, program: &[u8], message: &[u8])
+// A text that was printed into `out`, on standard error. The program's own name stands at its start, and a newline at its end. One that had no room,
+// or that is not taken, is told nowhere.
+fn say_text(rt: &HostRuntime, out: &[u8], printed: Result<usize, Unprinted>)
     ensures { NothingPromised }
 {
-    let mut line = large_buffer();
-    let n = words::message(program, message, &mut line);
-    tell(rt, &line, n);
+    if let Some(text) = printed.ok().and_then(|n| out.get(..n)) {
+        let _ = rt.stderr().write_all(text);
+    }
+}
+
+// One line on standard error: the program's name, or a title that begins with it, a colon, a blank and the message.
+pub fn say(rt: &HostRuntime, title: &[u8], message: &[u8])
+    ensures { NothingPromised }
+{
+    let mut line = room::<65536>();
+    let printed = print::whole(|out| words::message(title, message, out), &mut line);
+    say_text(rt, &line, printed);
 }
 
 // One line on standard error: what is wrong with the call, and how the program is called.
 pub fn wrong_call(rt: &HostRuntime, program: &[u8], fault: &[u8], usage: &[u8])
     ensures { NothingPromised }
 {
-    let mut line = large_buffer();
-    let n = words::wrong_call(program, fault, usage, &mut line);
-    tell(rt, &line, n);
+    let mut line = room::<65536>();
+    let printed = print::whole(|out| words::wrong_call(program, fault, usage, out), &mut line);
+    say_text(rt, &line, printed);
 }
 
 // The words of an error, as much of them as has room, and how long they are.
@@ -83,6 +103,40 @@ fn reason(words: &[u8]) -> &str {
     match text.split_once(" (os error ") {
         Some((reason, _)) => reason,
         None => text,
+    }
+}
+
+// A call of the system failed: one line on standard error has the title, a colon and the reason.
+pub fn say_error(rt: &HostRuntime, title: &[u8], error: io::Error)
+    ensures { NothingPromised }
+{
+    let mut text = [0u8; 512];
+    let n = error_words(error, &mut text);
+    say(rt, title, reason(&text[..n]).as_bytes());
+}
+
+// A text that was printed into `out`, on standard output; nothing of one that was refused. Whether all of it was taken; where not, that has been said.
+// A text that had too little room, which the bounds of the texts shut out, is not put.
+pub fn put_text(rt: &HostRuntime, program: &[u8], out: &[u8], printed: Result<usize, Unprinted>) -> bool
+    ensures { result ≡ true → written_length (written_of printed) ≤ length out.now }
+{
+    let n = print::length_of(printed);
+    if out.len() < n {
+        say(
+            rt,
+            program,
+            b"standard output: no room for a text of this length",
+        );
+        return false;
+    }
+    match rt.stdout().write_all(&out[..n]) {
+        Ok(()) => true,
+        Err(error) => {
+            let mut title = room::<65536>();
+            let n = words::title(program, b"standard output", &mut title);
+            say_error(rt, &title[..n], error);
+            false
+        }
     }
 }
 
@@ -155,9 +209,9 @@ pub fn helped(rt: &HostRuntime, program: &[u8], usage: &[u8]) -> bool
     if !is_help(rt, 1) {
         return false;
     }
-    let mut line = large_buffer();
-    let n = words::usage_line(usage, &mut line, 0);
-    put(rt, program, &line, n);
+    let mut line = room::<65536>();
+    let printed = print::whole(|out| words::usage_line(usage, out), &mut line);
+    put_text(rt, program, &line, printed);
     true
 }
 
@@ -254,4 +308,63 @@ pub fn open_input(rt: &HostRuntime, program: &[u8], argument: usize, name: &mut 
         source: Some(Source::Standard(rt.stdin())),
         named,
     }
+}
+
+// The file that this argument names, and the title; none where it can't be opened, which has been said.
+fn named_file<'a>(rt: &HostRuntime, program: &[u8], argument: usize, room: &'a mut [u8]) -> Option<(Source, &'a [u8])> {
+    // The longest path has 4,095 bytes.
+    let mut path = [0u8; 4095];
+    let n = match rt.arg(argument, &mut path) {
+        Ok(n) => n,
+        Err(why) => {
+            let named = words::title(program, b"the file's name", room);
+            say_error(rt, &room[..named], no_argument(why));
+            return None;
+        }
+    };
+    let named = words::title(program, &path[..n], room);
+    let title = &room[..named];
+    match open_path(rt, &path[..n]) {
+        Ok(file) => Some((Source::File(file), title)),
+        Err(error) => {
+            say_error(rt, title, error);
+            None
+        }
+    }
+}
+
+// The file that an argument names; standard input where there is no such argument or where it is `-`; and the title.
+fn opened<'a>(rt: &HostRuntime, program: &[u8], argument: usize, room: &'a mut [u8]) -> Option<(Source, &'a [u8])> {
+    if !is_standard_input(rt, argument) {
+        return named_file(rt, program, argument, room);
+    }
+    let named = words::title(program, b"standard input", room);
+    Some((Source::Standard(rt.stdin()), &room[..named]))
+}
+
+// Opens the file that an argument names, or standard input where there is no such argument or where it is `-`, and has `read` read it. `read` is told
+// the title too, what a message begins with that is about this input. What can't be opened has been said, and nothing is read.
+pub fn with_input<F: FnOnce(&mut Source, &[u8])>(rt: &HostRuntime, program: &[u8], argument: usize, read: F)
+    requires { F.IsAlwaysCallable read }
+    ensures { NothingPromised }
+{
+    let mut room = room::<65536>();
+    if let Some((mut source, title)) = opened(rt, program, argument, &mut room) {
+        read(&mut source, title);
+    }
+}
+
+// What a program does whose one argument names its input, and may be left out.
+pub fn on_one_input<F: FnOnce(&mut Source, &[u8])>(rt: &HostRuntime, program: &[u8], usage: &[u8], read: F)
+    requires { F.IsAlwaysCallable read }
+    ensures { NothingPromised }
+{
+    if helped(rt, program, usage) {
+        return;
+    }
+    if is_given(rt, 2) {
+        wrong_call(rt, program, b"too many arguments", usage);
+        return;
+    }
+    with_input(rt, program, 1, read);
 }

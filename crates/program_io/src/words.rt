@@ -1,10 +1,11 @@
 // Words and messages on slices: which words mean something, and how a line is composed. Each is an equation; `crate` hands the lines to the system.
 ghost use Rattle.std.specs.Prelude.{[], ◌∷◌, ◌≡◌};
 ghost use Rattle.text.specs.Decimal.{number_of};
-ghost use Rattle.print.specs.Printed.{Wrote};
+ghost use Rattle.print.specs.Prints.{Prints};
 ghost use Rattle.program_io.specs.Messages.{is_help, is_dash, value_of, shown_byte, shown_of, name_of, title_of, Began, message_of, usage_of, wrong_call_of};
 
 use text::search::equal;
+use print::Printout;
 
 // What three digits can't write.
 pub const NO_NUMBER: u16 = 1000;
@@ -48,71 +49,66 @@ fn shown_byte(byte: u8) -> u8
 }
 
 // The bytes of a name. A file's name may have a newline, and a message is one line.
-fn shown(s: &[u8], out: &mut [u8], at: usize) -> usize
-    ensures { Wrote out.old at (shown_of s.now) out.new result }
+fn shown(s: &[u8], out: &mut Printout)
+    ensures { Prints out.old (shown_of s.now) out.new }
 {
-    let mut next = at;
-    let mut i = 0;
-    while i < s.len() {
-        next = print::byte(shown_byte(s[i]), out, next);
-        i += 1;
+    for b in s {
+        out.byte(shown_byte(*b));
     }
-    next
 }
 
-fn name(s: &[u8], out: &mut [u8], at: usize) -> usize
-    ensures { Wrote out.old at (name_of s.now) out.new result }
+fn name(s: &[u8], out: &mut Printout)
+    ensures { Prints out.old (name_of s.now) out.new }
 {
-    if s.len() == 0 {
-        return print::bytes(b"''", out, at);
+    if s.is_empty() {
+        out.bytes(b"''");
+    } else {
+        shown(s, out);
     }
-    shown(s, out, at)
 }
 
-// The program's name, a colon and a blank, and the name of what the message is about; and the place after them.
-fn title_at(program: &[u8], about: &[u8], out: &mut [u8]) -> usize
-    ensures { Wrote out.old 0 (title_of program.now about.now) out.new result }
+// The program's name, a colon and a blank, and the name of what the message is about.
+fn whole_title(program: &[u8], about: &[u8], out: &mut Printout)
+    ensures { Prints out.old (title_of program.now about.now) out.new }
 {
-    let colon = print::bytes(program, out, 0);
-    let word = print::bytes(b": ", out, colon);
-    name(about, out, word)
+    out.bytes(program);
+    out.bytes(b": ");
+    name(about, out);
 }
 
 // As much of that as has room, and how many bytes it is.
 pub fn title(program: &[u8], about: &[u8], out: &mut [u8]) -> usize
     ensures { Began out.old (title_of program.now about.now) out.new result }
 {
-    let next = title_at(program, about, out);
-    if next < out.len() {
-        return next;
-    }
-    out.len()
+    let mut printout = Printout { out, at: 0 };
+    whole_title(program, about, &mut printout);
+    printout.at.min(printout.out.len())
 }
 
-pub fn message(program: &[u8], text: &[u8], out: &mut [u8]) -> usize
-    ensures { Wrote out.old 0 (message_of program.now text.now) out.new result }
+pub fn message(program: &[u8], text: &[u8], out: &mut Printout)
+    ensures { Prints out.old (message_of program.now text.now) out.new }
 {
-    let colon = print::bytes(program, out, 0);
-    let word = print::bytes(b": ", out, colon);
-    let end = print::bytes(text, out, word);
-    print::byte(b'\n', out, end)
+    out.bytes(program);
+    out.bytes(b": ");
+    out.bytes(text);
+    out.byte(b'\n');
 }
 
-// How a program is called, from this place on.
-pub fn usage_line(usage: &[u8], out: &mut [u8], at: usize) -> usize
-    ensures { Wrote out.old at (usage_of usage.now) out.new result }
+// How a program is called.
+pub fn usage_line(usage: &[u8], out: &mut Printout)
+    ensures { Prints out.old (usage_of usage.now) out.new }
 {
-    let word = print::bytes(b"usage: ", out, at);
-    let end = print::bytes(usage, out, word);
-    print::byte(b'\n', out, end)
+    out.bytes(b"usage: ");
+    out.bytes(usage);
+    out.byte(b'\n');
 }
 
-pub fn wrong_call(program: &[u8], fault: &[u8], usage: &[u8], out: &mut [u8]) -> usize
-    ensures { Wrote out.old 0 (wrong_call_of program.now fault.now usage.now) out.new result }
+pub fn wrong_call(program: &[u8], fault: &[u8], usage: &[u8], out: &mut Printout)
+    ensures { Prints out.old (wrong_call_of program.now fault.now usage.now) out.new }
 {
-    let colon = print::bytes(program, out, 0);
-    let word = print::bytes(b": ", out, colon);
-    let end = print::bytes(fault, out, word);
-    let next = print::bytes(b"; ", out, end);
-    usage_line(usage, out, next)
+    out.bytes(program);
+    out.bytes(b": ");
+    out.bytes(fault);
+    out.bytes(b"; ");
+    usage_line(usage, out);
 }

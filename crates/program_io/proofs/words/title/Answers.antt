@@ -1,9 +1,10 @@
+use mathlib.Core.Path.{sym}
 use native.Mathlib.Omega.{arith}
-use Rattle.program_io.proofs.CodeWays.{began-whole, began-cut}
+use borrow.Author.Rules.{rules}
+use Rattle.program_io.proofs.CodeWays.{began}
 use Rattle.program_io.proofs.words.title.Goals as goal
 
-pub returns-then-next-out : goal.returns-then-next-out
-returns-then-next-out c = began-whole (omega arith) c.title_at-next.ensures c.if-next-out.true
-
 pub returns : goal.returns
-returns c = began-cut (omega arith) c.title_at-next.ensures c.if-next-out.false
+returns c =
+    let buffer = sym c.whole_title.ensures.buffer in
+    began _ _ (omega arith) (c.whole_title.ensures.wrote (omega arith)) (search rules) c.min.ensures

@@ -1,11 +1,5 @@
-use Rattle.print.specs.Printed.{top}
-use lib.ListN.{length}
-use Prim.Native.Nat.{◌≤◌}
-use Rattle.print.proofs.Writing.{wrote_then}
-use native.Mathlib.Omega.{arith}
+use Rattle.print.proofs.Writing.{prints_then}
 use Rattle.program_io.proofs.words.usage_line.Goals as goal
 
 pub returns : goal.returns
-returns c =
-    let room : length c.args.out.now ≤ top = omega arith in
-    wrote_then room (wrote_then room c.bytes-word.ensures c.bytes-end.ensures) c.byte.ensures
+returns c = prints_then (prints_then c.bytes.ensures c.bytes-2.ensures) c.byte.ensures
