@@ -83,7 +83,10 @@ pub fn wrong_call(rt: &HostRuntime, program: &[u8], fault: &[u8], usage: &[u8])
     ensures { NothingPromised }
 {
     let mut line = room::<65536>();
-    let printed = print::whole(|out| words::wrong_call(program, fault, usage, out), &mut line);
+    let printed = print::whole(
+        |out| words::wrong_call(program, fault, usage, out),
+        &mut line,
+    );
     say_text(rt, &line, printed);
 }
 
@@ -117,7 +120,12 @@ pub fn say_error(rt: &HostRuntime, title: &[u8], error: io::Error)
 
 // A text that was printed into `out`, on standard output; nothing of one that was refused. Whether all of it was taken; where not, that has been said.
 // A text that had too little room, which the bounds of the texts shut out, is not put.
-pub fn put_text(rt: &HostRuntime, program: &[u8], out: &[u8], printed: Result<usize, Unprinted>) -> bool
+pub fn put_text(
+    rt: &HostRuntime,
+    program: &[u8],
+    out: &[u8],
+    printed: Result<usize, Unprinted>,
+) -> bool
     ensures { result ≡ true → written_length (written_of printed) ≤ length out.now }
 {
     let n = print::length_of(printed);
@@ -239,6 +247,15 @@ pub fn number(rt: &HostRuntime, argument: usize) -> u16
     }
 }
 
+// The number that an argument is, as lists and captures write numbers. None for an argument that is none, or is not there.
+pub fn number_given(rt: &HostRuntime, argument: usize) -> Option<u16>
+    ensures { NothingPromised }
+{
+    let mut word = [0u8; 4];
+    let n = rt.arg(argument, &mut word).ok()?;
+    text::decimal::number(&word[..n])
+}
+
 // An input: what is read, none where it can't be opened, which has been said; and how long its name is, the program's in front.
 #[derive(Drop)]
 pub struct Input {
@@ -311,7 +328,12 @@ pub fn open_input(rt: &HostRuntime, program: &[u8], argument: usize, name: &mut 
 }
 
 // The file that this argument names, and the title; none where it can't be opened, which has been said.
-fn named_file<'a>(rt: &HostRuntime, program: &[u8], argument: usize, room: &'a mut [u8]) -> Option<(Source, &'a [u8])> {
+fn named_file<'a>(
+    rt: &HostRuntime,
+    program: &[u8],
+    argument: usize,
+    room: &'a mut [u8],
+) -> Option<(Source, &'a [u8])> {
     // The longest path has 4,095 bytes.
     let mut path = [0u8; 4095];
     let n = match rt.arg(argument, &mut path) {
@@ -334,7 +356,12 @@ fn named_file<'a>(rt: &HostRuntime, program: &[u8], argument: usize, room: &'a m
 }
 
 // The file that an argument names; standard input where there is no such argument or where it is `-`; and the title.
-fn opened<'a>(rt: &HostRuntime, program: &[u8], argument: usize, room: &'a mut [u8]) -> Option<(Source, &'a [u8])> {
+fn opened<'a>(
+    rt: &HostRuntime,
+    program: &[u8],
+    argument: usize,
+    room: &'a mut [u8],
+) -> Option<(Source, &'a [u8])> {
     if !is_standard_input(rt, argument) {
         return named_file(rt, program, argument, room);
     }
@@ -344,7 +371,12 @@ fn opened<'a>(rt: &HostRuntime, program: &[u8], argument: usize, room: &'a mut [
 
 // Opens the file that an argument names, or standard input where there is no such argument or where it is `-`, and has `read` read it. `read` is told
 // the title too, what a message begins with that is about this input. What can't be opened has been said, and nothing is read.
-pub fn with_input<F: FnOnce(&mut Source, &[u8])>(rt: &HostRuntime, program: &[u8], argument: usize, read: F)
+pub fn with_input<F: FnOnce(&mut Source, &[u8])>(
+    rt: &HostRuntime,
+    program: &[u8],
+    argument: usize,
+    read: F,
+)
     requires { F.IsAlwaysCallable read }
     ensures { NothingPromised }
 {
@@ -355,7 +387,12 @@ pub fn with_input<F: FnOnce(&mut Source, &[u8])>(rt: &HostRuntime, program: &[u8
 }
 
 // What a program does whose one argument names its input, and may be left out.
-pub fn on_one_input<F: FnOnce(&mut Source, &[u8])>(rt: &HostRuntime, program: &[u8], usage: &[u8], read: F)
+pub fn on_one_input<F: FnOnce(&mut Source, &[u8])>(
+    rt: &HostRuntime,
+    program: &[u8],
+    usage: &[u8],
+    read: F,
+)
     requires { F.IsAlwaysCallable read }
     ensures { NothingPromised }
 {

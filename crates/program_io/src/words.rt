@@ -4,8 +4,8 @@ ghost use Rattle.text.specs.Decimal.{number_of};
 ghost use Rattle.print.specs.Prints.{Prints};
 ghost use Rattle.program_io.specs.Messages.{is_help, is_dash, value_of, shown_byte, shown_of, name_of, title_of, Began, message_of, usage_of, wrong_call_of};
 
-use text::search::equal;
 use print::Printout;
+use text::search::equal;
 
 // What three digits can't write.
 pub const NO_NUMBER: u16 = 1000;

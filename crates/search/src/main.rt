@@ -1,24 +1,28 @@
 // search: prints for each page and byte, in order, how many rows are looked at until the one that takes the byte: page, byte, rows, parted by tabs.
 #![tactic(auto)]
 
+use print::Printout;
 use row_search::{Page, find};
 
-fn line(number: u8, byte: u8, looked: usize, out: &mut [u8], at: usize) -> usize {
-    let byte_at = print::field(number as u64, b'\t', out, at);
-    let looked_at = print::field(byte as u64, b'\t', out, byte_at);
-    print::field(looked as u64, b'\n', out, looked_at)
+fn line(number: u8, byte: u8, looked: usize, out: &mut Printout) {
+    out.field(u64::from(number), b'\t');
+    out.field(u64::from(byte), b'\t');
+    out.field(looked as u64, b'\n');
 }
 
 // The lines of a page, which has this number.
-fn lines(page: Page, number: u8, out: &mut [u8], at: usize) -> usize {
-    let mut next = at;
-    let mut byte: u16 = 0;
-    while byte < 256 {
-        let found = find(page, byte as u8);
-        next = line(number, byte as u8, found.looked, out, next);
-        byte += 1;
+fn lines(page: Page, number: u8, out: &mut Printout) {
+    for byte in 0..=255 {
+        line(number, byte, find(page, byte).looked, out);
     }
-    next
+}
+
+fn all_lines(out: &mut Printout) {
+    lines(Page::Function, 0, out);
+    lines(Page::Display, 1, out);
+    lines(Page::Generator, 2, out);
+    lines(Page::Grey, 3, out);
+    lines(Page::Special, 4, out);
 }
 
 fn main(rt: HostRuntime) {
@@ -30,11 +34,7 @@ fn main(rt: HostRuntime) {
         return;
     }
     // 1,280 lines of at most 8 bytes each.
-    let mut out = program_io::large_buffer();
-    let mut next = lines(Page::Function, 0, &mut out, 0);
-    next = lines(Page::Display, 1, &mut out, next);
-    next = lines(Page::Generator, 2, &mut out, next);
-    next = lines(Page::Grey, 3, &mut out, next);
-    next = lines(Page::Special, 4, &mut out, next);
-    program_io::put(&rt, b"search", &out, next);
+    let mut out = program_io::room::<65536>();
+    let printed = print::whole(all_lines, &mut out);
+    program_io::put_text(&rt, b"search", &out, printed);
 }
