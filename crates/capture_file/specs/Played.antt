@@ -2,6 +2,8 @@
 -- answers the result is the replay of exactly the bytes that they gave, in the order in which they came, and no later byte would change it.
 use Rattle.std.specs.Prelude.{List, ◌∷◌, ◌++◌, ◌≡◌, ℕ, length}
 use Rattle.program_io.specs.Answers.{Answer, count_of, text_of, last_failure, most_calls}
+use Rattle.refusals.specs.Numbers.{numbered}
+use Rattle.capture.specs.declared.Capture.{Capture}
 use Rattle.capture.specs.Feeding.{Playing, meaning}
 use Rattle.capture.specs.Replay.{replay_of}
 use Rattle.capture_file.specs.declared.Turn.{Turn}
@@ -9,9 +11,9 @@ use Rattle.capture_file.specs.declared.Played.{Played}
 use Rattle.capture_file.specs.Answers.{turned, taken_in}
 
 -- one answer
-pub record TurnOfSome (t : Turn) (m w : List ℕ) (before : Playing) : Type 0 where
+pub record TurnOfSome (t : Turn) (c : Capture) (m w : List ℕ) (before : Playing) : Type 0 where
   pub answer : Answer
-  pub is_taken_in : turned t m w ≡ taken_in answer before
+  pub is_taken_in : turned t c m w ≡ taken_in answer before
 
 -- why no further call was made
 pub data Enough (m w : List ℕ) : List Answer → Type 0 where
@@ -25,6 +27,6 @@ pub data Enough (m w : List ℕ) : List Answer → Type 0 where
 -- the answers to all calls
 pub record ReplayOfSome (r : Played) (m w m₀ w₀ : List ℕ) : Type 0 where
   pub answers : List Answer
-  pub is_replay : meaning r.end m w ≡ replay_of (text_of answers) m₀ w₀
+  pub is_replay : meaning (numbered r.end) m w ≡ replay_of (text_of answers) m₀ w₀
   pub is_failed : r.failed ≡ last_failure answers
   pub is_enough : Enough m₀ w₀ answers

@@ -5,33 +5,50 @@
 // tested: tests/programs compares the programs with the model's on files and pipes, cut at every place.
 #![tactic(auto)]
 
-ghost use Rattle.std.specs.Prelude.{◌≡◌};
+ghost use Rattle.std.specs.Prelude.{◌≡◌, List, ℕ};
+ghost use Rattle.refusals.specs.Numbers.{numbered};
 ghost use Rattle.program_io.specs.Answers.{answer_of};
-ghost use Rattle.capture.specs.Feeding.{kept};
-ghost use Rattle.capture_file.specs.Answers.{turned, taken_in};
+ghost use Rattle.capture.specs.Feeding.{kept, fed_by};
+ghost use Rattle.capture.specs.declared.Capture.{Capture};
+ghost use Rattle.capture_file.specs.Answers.{turned, turn_of, taken_in, finish_fed};
 ghost use Rattle.capture_file.specs.Played.{TurnOfSome, ReplayOfSome};
 
-use capture::{Capture, End, Fed};
+use capture::{Capture, End};
 use program_io::reading::Source;
+use refusals::Refusal;
 use std::io;
 use std::io::Read;
 
-// What the bytes of one read come to, whether there may be more to read, and why that read failed, if it did.
+// What the bytes of one read come to.
 #[derive(Clone, Copy)]
-pub struct Turn {
-    pub fed: Fed,
-    pub more: bool,
-    pub failed: Option<io::Error>,
+pub enum Turn {
+    // There may be more to read.
+    More(Capture),
+    // There is no more, or it would change nothing; and why that read failed, if it did.
+    Last(Result<Capture, Refusal>, Option<io::Error>),
 }
 
 // What was read comes to `end`; `failed` is the error with which reading stopped, if it did.
 #[derive(Clone, Copy)]
 pub struct Played {
-    pub end: End,
+    pub end: Result<End, Refusal>,
     pub failed: Option<io::Error>,
 }
 
-// What a read answered, and the buffer that it was lent. One that failed gave no byte, and neither does one at the end of the input.
+// What a read answered, and the buffer that it was lent, once the bytes were fed. One that failed gave no byte, and neither does one at the end of the
+// input.
+pub fn after_read(got: io::Result<usize>, buf: &[u8], fed: Result<Capture, Refusal>) -> Turn
+    ensures { (before : Capture) (m w : List ℕ) → turned result before m w ≡ turn_of (answer_of got buf.now) (fed_by fed before m w) }
+{
+    match fed {
+        Ok(capture) if 0 < program_io::reading::count(got, buf) && !capture::is_over(capture) => {
+            Turn::More(capture)
+        }
+        _ => Turn::Last(fed, got.err()),
+    }
+}
+
+// The same with the feeding.
 pub fn take_in(
     got: io::Result<usize>,
     buf: &[u8],
@@ -39,22 +56,23 @@ pub fn take_in(
     memory: &mut [u8],
     writers: &mut [u64],
 ) -> Turn
-    ensures { turned result memory.new writers.new
+    ensures { turned result capture memory.new writers.new
         ≡ taken_in (answer_of got buf.now) (kept capture memory.old writers.old) }
 {
     let n = program_io::reading::count(got, buf);
-    let failed = got.err();
-    let fed = capture::feed(capture, memory, writers, &buf[..n]);
-    Turn {
-        fed,
-        more: (0 < n) & !capture::is_over(fed),
-        failed,
-    }
+    after_read(got, buf, capture::feed(capture, memory, writers, &buf[..n]))
+}
+
+// What a capture comes to that is fed no more.
+pub fn finish(fed: Result<Capture, Refusal>) -> Result<End, Refusal>
+    ensures { numbered result ≡ finish_fed fed }
+{
+    capture::finish(fed?)
 }
 
 // One read. The buffer stands here, so that the loop knows nothing of it.
 fn read_once(source: &mut Source, capture: Capture, memory: &mut [u8], writers: &mut [u64]) -> Turn
-    ensures { TurnOfSome result memory.new writers.new (kept capture memory.old writers.old) }
+    ensures { TurnOfSome result capture memory.new writers.new (kept capture memory.old writers.old) }
 {
     let mut buf = program_io::large_buffer();
     let got = source.read(&mut buf);
@@ -66,21 +84,29 @@ fn read_once(source: &mut Source, capture: Capture, memory: &mut [u8], writers: 
 pub fn play(source: &mut Source, memory: &mut [u8], writers: &mut [u64]) -> Played
     ensures { ReplayOfSome result memory.new writers.new memory.old writers.old }
 {
-    let mut fed = capture::feed(capture::start(), memory, writers, b"");
-    let mut more = !capture::is_over(fed);
-    let mut failed = None;
-    // A proved loop needs a number that falls, and nothing says that an input ends. No run makes this many turns.
-    let mut turns = u64::MAX;
-    while 0 < turns && more {
-        let capture = fed.capture;
-        let turn = read_once(source, capture, memory, writers);
-        fed = turn.fed;
-        more = turn.more;
-        failed = turn.failed;
-        turns -= 1;
+    let mut capture = match capture::feed(capture::start(), memory, writers, b"") {
+        Ok(begun) => begun,
+        Err(refusal) => {
+            return Played {
+                end: Err(refusal),
+                failed: None,
+            };
+        }
+    };
+    // Nothing says that an input ends. No run makes this many turns.
+    for _ in 0..u64::MAX {
+        match read_once(source, capture, memory, writers) {
+            Turn::More(next) => capture = next,
+            Turn::Last(fed, failed) => {
+                return Played {
+                    end: finish(fed),
+                    failed,
+                };
+            }
+        }
     }
     Played {
-        end: capture::finish(fed),
-        failed,
+        end: capture::finish(capture),
+        failed: None,
     }
 }

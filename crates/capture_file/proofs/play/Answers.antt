@@ -1,29 +1,23 @@
-use mathlib.Core.Logic.{inl, inr}
 use mathlib.Core.Path.{refl, ◌∙◌}
 use native.Mathlib.Omega.{arith}
-use Rattle.capture_file.proofs.CodeWays.{begun, turn-fed, all-fed}
+use Rattle.capture_file.proofs.CodeWays.{begun, begun-refused, turn-fed, last-fed, all-fed}
 use Rattle.capture_file.proofs.play.Goals as goal
-use Rattle.capture_file.proofs.play.Goals.{then-loop-turns-test+else-more, else-loop-turns-test}
 
-pub loop-turns-init : goal.loop-turns-init
-loop-turns-init c = (refl, refl, λ m w s. s)
+pub returns-in-Err : goal.returns-in-Err
+returns-in-Err c = begun-refused _ _ _ _ _ _ c.start.ensures c.in-Err.ensures
 
-pub overflow_sub-turns : goal.overflow_sub-turns
-overflow_sub-turns c =
-    omega (arith, c.loop-turns-test.true)
+pub loop-init : goal.loop-init
+loop-init c = (refl, refl, begun _ _ _ _ _ _ c.start.ensures c.in-Ok.ensures)
 
-pub loop-turns-smaller : goal.loop-turns-smaller
-loop-turns-smaller c =
-    omega (arith, c.loop-turns-test.true)
-
-pub loop-turns-preserved : goal.loop-turns-preserved
-loop-turns-preserved c = (
-  c.read_once-turn.auto.memory ∙ c.loop-turns.invariant.0,
-  c.read_once-turn.auto.writers ∙ c.loop-turns.invariant.1,
-  λ m w s. turn-fed _ (c.loop-turns.invariant.2 m w s) c.loop-turns-test.true c.if-more.true c.read_once-turn.ensures,
+pub loop-preserved : goal.loop-preserved
+loop-preserved c = (
+  c.read_once.auto.memory ∙ c.loop.invariant.0,
+  c.read_once.auto.writers ∙ c.loop.invariant.1,
+  turn-fed c.loop.invariant.2 _ c.in-More.ensures,
 )
 
+pub returns-in-Last : goal.returns-in-Last
+returns-in-Last c = last-fed c.loop.invariant.2 _ _ _ c.in-Last.ensures c.finish.ensures
+
 pub returns : goal.returns
-returns c =
-    let so_far = c.loop-turns.invariant.2 _ _ (begun _ _ _ _ _ _ _ c.start.ensures c.feed-fed.ensures c.is_over-more.ensures) in
-    all-fed _ so_far c.finish.ensures (elim c.loop-turns-test.branch [ then-loop-turns-test+else-more w ↦ inl w.if-more.false | else-loop-turns-test w ↦ inr (omega (arith, w.loop-turns-test.false)) ])
+returns c = all-fed c.loop.invariant.2 _ c.finish-2.ensures (omega (arith, c.loop-test.false, c.loop.auto.counter-end))
