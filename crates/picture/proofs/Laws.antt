@@ -11,9 +11,10 @@ use Rattle.registers.specs.declared.Chip.{Chip}
 use Rattle.registers.specs.Record.{allowed}
 use Rattle.registers.specs.Refusals.{refuse, ◌then◌}
 use Rattle.registers.specs.State.{places}
+use Rattle.std.specs.Prelude.{Ok, Err}
 use Rattle.glass.specs.declared.answer.Shown.TheVariants as shown
 use Rattle.glass.specs.Glass.{glass_of, glass_refusal, place_refusal}
-use Rattle.glass.specs.When.{OnGlass, Told, LitBy}
+use Rattle.glass.specs.When.{OnGlass, Tells, LitBy}
 use Rattle.glass.proofs.Refusals.{is-on, glass-exactly}
 use Rattle.glass.proofs.Laws.{tells, level-64-when}
 use Rattle.text.specs.Text.{bytes}
@@ -63,7 +64,7 @@ pub darker : (g h : ℕ) → g < h → h ≤ 64 → grey h < grey g
 darker g h l m = omega arith
 
 -- level 64, which a grey register of 63 shows, is black
-pub black : pixel_text (colour_of (shown.Level 64)) ≡ bytes "0 0 0\n"
+pub black : pixel_text (colour_of (Ok (shown.Level 64))) ≡ bytes "0 0 0\n"
 unfolding decimal_of
 black = refl
 
@@ -94,17 +95,17 @@ module _ (c : Chip) (memory : List ℕ) (row column : ℕ) (on : OnGlass row col
   passed : pixmap_refusal c (length memory) ≡ 0 → glass_refusal c (length memory) row column ≡ 0
   passed e = sym (as-the-glass c (length memory) row column on) ∙ e
 
-  is_told : pixmap_refusal c (length memory) ≡ 0 → Told (glass_of c memory row column)
+  is_told : pixmap_refusal c (length memory) ≡ 0 → Tells (glass_of c memory row column)
   is_told e = tells c memory row column ((glass-exactly c (length memory) row column 0).0 (passed e))
 
   -- no pixel of a picture that is not refused is
-  pub none-refused : pixmap_refusal c (length memory) ≡ 0 → (k : ℕ) → glass_of c memory row column ≡ shown.Refused k → ⊥
-  none-refused e k r = subst Told r (is_told e)
+  pub none-refused : pixmap_refusal c (length memory) ≡ 0 → (k : ℕ) → glass_of c memory row column ≡ Err k → ⊥
+  none-refused e k r = subst Tells r (is_told e)
 
   -- it is black exactly where the grey register that it uses holds 63
   pub black-when : pixmap_refusal c (length memory) ≡ 0 → (colour_of (glass_of c memory row column) ≡ rgb 0 0 0) ↔ LitBy c memory row column 63
   black-when e = (
-    λ black-there. ((level-64-when c memory row column).0 (colours-apart _ (shown.Level 64) (is_told e) (omega arith) black-there)).1,
+    λ black-there. ((level-64-when c memory row column).0 (colours-apart _ (Ok (shown.Level 64)) (is_told e) (omega arith) black-there)).1,
     λ lit. ap colour_of ((level-64-when c memory row column).1 ((glass-exactly c (length memory) row column 0).0 (passed e), lit)),
   )
 

@@ -5,6 +5,7 @@ use Prim.Native.Nat.{ℕ, ◌+◌, ◌*◌, ◌/◌, ◌%◌, ◌≤◌, ◌<◌
 use native.Mathlib.Omega.{arith}
 use lib.ListN.{length, length-append}
 use Rattle.registers.specs.declared.Chip.{Chip}
+use Rattle.std.specs.Prelude.{Result, Ok, Err}
 use Rattle.glass.specs.declared.answer.Shown.{Shown}
 use Rattle.glass.specs.declared.answer.Shown.TheVariants as shown
 use Rattle.glass.specs.Glass.{glass_of}
@@ -49,11 +50,11 @@ record Bytes (c : Colour) : Type 0 where
 grey-bound : (g : ℕ) → grey g < 256
 grey-bound g = omega arith
 
-colour-bytes : (s : Shown) → Bytes (colour_of s)
-colour-bytes (shown.Level g) = record { red = grey-bound g; green = grey-bound g; blue = grey-bound g }
-colour-bytes shown.Dark = record { red = omega arith; green = omega arith; blue = omega arith }
-colour-bytes shown.Undriven = record { red = omega arith; green = omega arith; blue = omega arith }
-colour-bytes (shown.Refused n) = record { red = omega arith; green = omega arith; blue = omega arith }
+colour-bytes : (s : Result Shown ℕ) → Bytes (colour_of s)
+colour-bytes (Ok (shown.Level g)) = record { red = grey-bound g; green = grey-bound g; blue = grey-bound g }
+colour-bytes (Ok shown.Dark) = record { red = omega arith; green = omega arith; blue = omega arith }
+colour-bytes (Ok shown.Undriven) = record { red = omega arith; green = omega arith; blue = omega arith }
+colour-bytes (Err n) = record { red = omega arith; green = omega arith; blue = omega arith }
 
 pixel-length : (a b c : List ℕ) → length ((a ++ 32 ∷ (b ++ 32 ∷ c)) ++ (10 ∷ [])) ≡ length a + length b + length c + 3
 pixel-length a b c = simp length-append (omega arith)

@@ -1,5 +1,5 @@
 -- The glass as a portable pixmap (PPM, text form P3): a header, then one pixel a line, row 0 first and in a row column 0 first.
-use Rattle.std.specs.Prelude.{List, [], ◌∷◌, ◌++◌, ℕ, ◌*◌, ◌/◌, ◌%◌, ◌-◌, length}
+use Rattle.std.specs.Prelude.{List, [], ◌∷◌, ◌++◌, Result, Ok, Err, ℕ, ◌*◌, ◌/◌, ◌%◌, ◌-◌, length}
 use Rattle.registers.specs.declared.Chip.{Chip}
 use Rattle.registers.specs.Refusals.{◌then◌, length_refusal, record_refusal}
 use Rattle.glass.specs.declared.answer.Shown.{Shown}
@@ -20,11 +20,11 @@ abbrev pub grey : ℕ → ℕ
 grey level = 255 * (64 - level) / 64
 
 -- on a picture that is not refused no pixel is, so that the last colour is never seen
-abbrev pub colour_of : Shown → Colour
-colour_of (shown.Level g) = rgb (grey g) (grey g) (grey g)
-colour_of shown.Dark = rgb 0 0 96
-colour_of shown.Undriven = rgb 96 64 0
-colour_of (shown.Refused n) = rgb 0 0 0
+abbrev pub colour_of : Result Shown ℕ → Colour
+colour_of (Ok (shown.Level g)) = rgb (grey g) (grey g) (grey g)
+colour_of (Ok shown.Dark) = rgb 0 0 96
+colour_of (Ok shown.Undriven) = rgb 96 64 0
+colour_of (Err n) = rgb 0 0 0
 
 -- ---- the text
 

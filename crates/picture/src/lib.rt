@@ -2,19 +2,18 @@
 #![tactic(auto)]
 
 ghost use Rattle.std.specs.Prelude.{◌≡◌};
-ghost use Rattle.print.specs.Printed.{Wrote, output};
-ghost use Rattle.picture.specs.Picture.{grey, rgb, colour_of, pixel_text, pixel_at, pixmap_of, pixmap_refusal, pixmap_call};
+ghost use Rattle.print.specs.Printed.{output, parts_from};
+ghost use Rattle.print.specs.Prints.{Prints, written_of};
+ghost use Rattle.refusals.specs.Numbers.{numbered, refused_by};
+ghost use Rattle.picture.specs.Picture.{grey, rgb, colour_of, pixel_text, pixel_at, pixel_count, pixmap_of, pixmap_refusal, pixmap_call};
 
 use glass::answer::Shown;
-use print::Written;
+use print::{Printout, Unprinted};
+use refusals::Refusal;
 use registers::Chip;
 
-const BLANK: u8 = 32;
-
-const NEWLINE: u8 = 10;
-
 // Parts of 255.
-#[derive(Clone, Copy)]
+#[derive(Clone, Copy, Debug, PartialEq, Eq, Hash)]
 pub struct Colour {
     pub red: u8,
     pub green: u8,
@@ -25,10 +24,7 @@ pub struct Colour {
 fn light(level: u8) -> u8
     ensures { result ≡ grey level }
 {
-    if 64 < level {
-        return 0;
-    }
-    (255 * (64 - level as u16) / 64) as u8
+    (255 * u16::from(64u8.saturating_sub(level)) / 64) as u8
 }
 
 fn rgb(red: u8, green: u8, blue: u8) -> Colour
@@ -44,69 +40,64 @@ fn level_colour(level: u8) -> Colour
     rgb(value, value, value)
 }
 
-fn colour_of(shown: Shown) -> Colour
-    ensures { result ≡ colour_of shown }
+// On a picture that is not refused no pixel is.
+fn colour_of(shown: Result<Shown, Refusal>) -> Colour
+    ensures { result ≡ colour_of (numbered shown) }
 {
     match shown {
-        Shown::Level(level) => level_colour(level),
-        Shown::Dark => rgb(0, 0, 96),
-        Shown::Undriven => rgb(96, 64, 0),
-        Shown::Refused(_) => rgb(0, 0, 0),
+        Ok(Shown::Level(level)) => level_colour(level),
+        Ok(Shown::Dark) => rgb(0, 0, 96),
+        Ok(Shown::Undriven) => rgb(96, 64, 0),
+        Err(_) => rgb(0, 0, 0),
     }
 }
 
 // One pixel's line.
-fn pixel(colour: Colour, out: &mut [u8], at: usize) -> usize
-    ensures { Wrote out.old at (pixel_text colour) out.new result }
+fn pixel(colour: Colour, out: &mut Printout)
+    ensures { Prints out.old (pixel_text colour) out.new }
 {
-    let after_red = print::field(colour.red as u64, BLANK, out, at);
-    let after_green = print::field(colour.green as u64, BLANK, out, after_red);
-    print::field(colour.blue as u64, NEWLINE, out, after_green)
+    out.field(u64::from(colour.red), b' ');
+    out.field(u64::from(colour.green), b' ');
+    out.field(u64::from(colour.blue), b'\n');
 }
 
-fn pixel_at(chip: Chip, memory: &[u8], k: usize, out: &mut [u8], at: usize) -> usize
-    ensures { Wrote out.old at (pixel_at chip memory.now k) out.new result }
+fn pixel_at(chip: Chip, memory: &[u8], k: usize, out: &mut Printout)
+    ensures { Prints out.old (pixel_at chip memory.now k) out.new }
 {
     let shown = glass::glass(chip, memory, k / 101, k % 101);
-    pixel(colour_of(shown), out, at)
+    pixel(colour_of(shown), out);
 }
 
-// The whole text: 67 rows of 101 pixels.
-fn pixels(chip: Chip, memory: &[u8], out: &mut [u8]) -> usize
-    ensures { Wrote out.old 0 (pixmap_of chip memory.now) out.new result }
+// 67 rows of 101 pixels.
+fn pixels(chip: Chip, memory: &[u8], out: &mut Printout)
+    ensures { Prints out.old (parts_from (pixel_at chip memory.now) 0 pixel_count) out.new }
 {
-    let mut at = print::bytes(b"P3\n101 67\n255\n", out, 0);
-    let mut k = 0;
-    while k < 6767 {
-        at = pixel_at(chip, memory, k, out, at);
-        k += 1;
+    for k in 0..6767 {
+        pixel_at(chip, memory, k, out);
     }
-    at
 }
 
-// 1: a memory of another length; 2: a record that is not allowed; 0 is none.
-fn refusal(chip: Chip, memory_len: usize) -> u8
-    ensures { result ≡ pixmap_refusal chip memory_len }
+// The whole text.
+fn text(chip: Chip, memory: &[u8], out: &mut Printout)
+    ensures { Prints out.old (pixmap_of chip memory.now) out.new }
 {
-    let length = registers::refusal::of_length(memory_len);
-    if length != 0 {
-        return length;
-    }
-    registers::refusal::of_record(chip)
+    out.bytes(b"P3\n101 67\n255\n");
+    pixels(chip, memory, out);
+}
+
+// A memory of another length; then a record that is not allowed.
+#[tactic(auto, unfolding(crate::specs::Picture::pixmap_refusal))]
+fn refusal(chip: Chip, memory_len: usize) -> Result<(), Refusal>
+    ensures { refused_by result ≡ pixmap_refusal chip memory_len }
+{
+    registers::refusal::length(memory_len)?;
+    registers::refusal::record(chip)
 }
 
 // The picture of what this chip shows of this memory, from the start of `out` on.
-pub fn pixmap(chip: Chip, memory: &[u8], out: &mut [u8]) -> Written
-    ensures { output result out.new ≡ pixmap_call chip memory.now out.old }
+pub fn pixmap(chip: Chip, memory: &[u8], out: &mut [u8]) -> Result<usize, Unprinted>
+    ensures { output (written_of result) out.new ≡ pixmap_call chip memory.now out.old }
 {
-    let refused = refusal(chip, memory.len());
-    if refused != 0 {
-        return Written::Refused(refused);
-    }
-    let mut none = [0u8; 0];
-    let needed = pixels(chip, memory, &mut none);
-    if out.len() < needed {
-        return Written::Short(needed);
-    }
-    Written::Text(pixels(chip, memory, out))
+    refusal(chip, memory.len())?;
+    print::whole(|printout| text(chip, memory, printout), out)
 }

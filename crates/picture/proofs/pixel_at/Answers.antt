@@ -1,6 +1,7 @@
-use Rattle.picture.proofs.CodeWays.{pixel-shown}
+use mathlib.Core.Path.{ap, ◌∙◌}
+use Rattle.print.proofs.Writing.{prints-same}
+use Rattle.picture.specs.Picture.{colour_of, pixel_text}
 use Rattle.picture.proofs.pixel_at.Goals as goal
 
 pub returns : goal.returns
-returns c =
-    pixel-shown c.args.chip _ _ _ _ c.glass-shown.ensures c.colour_of.ensures c.pixel.ensures
+returns c = prints-same (ap pixel_text (c.colour_of.ensures ∙ ap colour_of c.glass-shown.ensures)) c.pixel.ensures

@@ -1,22 +1,13 @@
 use native.Mathlib.Omega.{arith}
-use Rattle.print.proofs.Writing.{wrote-next, parts-turn, parts-end}
-use Rattle.picture.proofs.CodeWays.{pixmap-wrote}
-use borrow.Author.Rules.{rules}
+use Rattle.print.proofs.Writing.{prints_none, prints-part, prints-parts}
+use Rattle.picture.specs.Picture.{pixel_at}
 use Rattle.picture.proofs.pixels.Goals as goal
 
 pub loop-k-init : goal.loop-k-init
-loop-k-init c = (search rules, wrote-next c.bytes-at.ensures, search rules, λ l j w. w)
+loop-k-init c = prints_none _ (omega arith)
 
 pub loop-k-preserved : goal.loop-k-preserved
-loop-k-preserved c = (
-  search rules,
-  wrote-next c.pixel_at-at.ensures,
-  search rules,
-  λ l j w. c.loop-k.invariant.3 l j
-      (parts-turn _ _ _ c.loop-k-test.true (omega arith) c.pixel_at-at.ensures w),
-)
+loop-k-preserved c = prints-part (pixel_at c.args.chip c.args.memory.now) c.loop-k.k c.loop-k.invariant c.pixel_at.ensures
 
 pub returns : goal.returns
-returns c =
-    pixmap-wrote _ _ (omega arith) c.bytes-at.ensures
-    (c.loop-k.invariant.3 _ _ (parts-end _ _ _ _ _ (omega arith) c.loop-k-test.false))
+returns c = prints-parts (pixel_at c.args.chip c.args.memory.now) c.loop-k.auto.k-end c.loop-k-test.false c.loop-k.invariant
