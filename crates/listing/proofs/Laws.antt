@@ -3,6 +3,7 @@ use mathlib.Core.Path.{◌≡◌, refl, ap, ◌∙◌}
 use mathlib.Core.List.{List, [], ◌∷◌, ◌++◌, Memᴰ}
 use mathlib.Core.Logic.{◌↔◌}
 use Prim.Native.Nat.{ℕ, ◌+◌, ◌*◌}
+use Rattle.std.specs.Prelude.{Result, Ok, Err}
 use native.Mathlib.Omega.{arith}
 use lib.ListN.{get_or, length}
 use Rattle.registers.specs.Refusals.{lengths_refusal}
@@ -33,12 +34,12 @@ use Rattle.listing.proofs.WrittenCells.{place-order, from-chosen, so-chosen}
 pub use Rattle.listing.proofs.Lines.{listing-bound, refused-bound}
 
 -- the memories of an end that is a replay's are the replay's
-pub memories-of : (e : End) (m w : List ℕ) (end : State) → meaning e m w ≡ replayed end → (m ≡ end.memory) × (w ≡ end.writers)
+pub memories-of : (e : Result End ℕ) (m w : List ℕ) (end : State) → meaning e m w ≡ replayed end → (m ≡ end.memory) × (w ≡ end.writers)
 unfolding meaning
-memories-of (ends.Refused k) m w end q = absurd (let z : ◌≡◌ {A = ℕ} 0 1 = cc q in omega arith)
-memories-of ends.BadFirst m w end q = absurd (let z : ◌≡◌ {A = ℕ} 0 1 = cc q in omega arith)
-memories-of (ends.Bad c n) m w end q = absurd (let z : ◌≡◌ {A = ℕ} 0 1 = cc q in omega arith)
-memories-of (ends.Whole c n) m w end q =
+memories-of (Err k) m w end q = absurd (let z : ◌≡◌ {A = ℕ} 0 1 = cc q in omega arith)
+memories-of (Ok ends.BadFirst) m w end q = absurd (let z : ◌≡◌ {A = ℕ} 0 1 = cc q in omega arith)
+memories-of (Ok (ends.Bad c n)) m w end q = absurd (let z : ◌≡◌ {A = ℕ} 0 1 = cc q in omega arith)
+memories-of (Ok (ends.Whole c n)) m w end q =
     let same : state c m w n ≡ end = cc q in
     (ap (λ (s : State). s.memory) same, ap (λ (s : State). s.writers) same)
 
@@ -78,7 +79,7 @@ module _ (memory writers : List ℕ) where
 
 -- and so that of the line of a capture that is refused at a line, which nothing else refuses
 pub refused-number-exactly :
-    (file : List ℕ) (e : End) (n : ℕ) (s : State) (out : List ℕ) → meaning e [] [] ≡ refused_at n s
+    (file : List ℕ) (e : Result End ℕ) (n : ℕ) (s : State) (out : List ℕ) → meaning e [] [] ≡ refused_at n s
     → NumberSays listing_number 10 (refused_of file n) out (refused_call file e out)
 unfolding refused_call
 refused-number-exactly file e n s out same = rw same (number-says 10 (λ z. omega arith) (refused_of file n) out)
@@ -125,7 +126,7 @@ module _ (text : List ℕ) (end : State) (r : Replayed text zeros zeros end) whe
 
 -- what is printed of a capture that is replayed from zeros: that text
 pub replay-prints :
-    (text m w out : List ℕ) (e : End) (end : State) → meaning e m w ≡ replay_of text zeros zeros → (h : replay_of text zeros zeros ≡ replayed end)
+    (text m w out : List ℕ) (e : Result End ℕ) (end : State) → meaning e m w ≡ replay_of text zeros zeros → (h : replay_of text zeros zeros ≡ replayed end)
     → (replay_text_call e m w out ≡ whole_text 0 (listing_of end.memory end.writers) out)
     × ListsLastWriters ((is-replayed text zeros zeros end).0 h).pins ((is-replayed text zeros zeros end).0 h).events (listing_of end.memory end.writers)
 unfolding replay_text_call
@@ -147,11 +148,11 @@ replay-prints text m w out e end same h = (go (memories-of e m w end (same ∙ h
 
 -- what is printed of one that is refused at a line: that line alone
 pub refusal-prints :
-    (m w out : List ℕ) (e : End) (n : ℕ) (s : State) → Lent m w → meaning e m w ≡ refused_at n s → replay_text_call e m w out ≡ whole_text 0 (refused_of [] n) out
+    (m w out : List ℕ) (e : Result End ℕ) (n : ℕ) (s : State) → Lent m w → meaning e m w ≡ refused_at n s → replay_text_call e m w out ≡ whole_text 0 (refused_of [] n) out
 unfolding replay_text_call
 refusal-prints m w out e n s lent same = rw (lent-passes m w lent, same)
 
 -- and of a program that tells its file first, that line with the file in front, whatever the memories
 pub refusal-of-a-file :
-    (file m w out : List ℕ) (e : End) (n : ℕ) (s : State) → meaning e m w ≡ refused_at n s → refused_call file e out ≡ whole_text 0 (refused_of file n) out
+    (file m w out : List ℕ) (e : Result End ℕ) (n : ℕ) (s : State) → meaning e m w ≡ refused_at n s → refused_call file e out ≡ whole_text 0 (refused_of file n) out
 refusal-of-a-file file m w out e n s same = refused-by-memories file e m w out ∙ rw same

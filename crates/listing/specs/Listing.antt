@@ -1,5 +1,5 @@
 -- The replay listing (document 01): a header, then the cells with a writer, by bank, then column; and the one line of a capture that is bad.
-use Rattle.std.specs.Prelude.{Bool, not, List, [], ◌∷◌, ◌++◌, ℕ, ◌/◌, ◌%◌, eqb, length, get_or}
+use Rattle.std.specs.Prelude.{Bool, not, cond, List, [], ◌∷◌, ◌++◌, ℕ, ◌/◌, ◌%◌, eqb, length, get_or}
 use Rattle.registers.specs.Refusals.{lengths_refusal}
 use Rattle.registers.specs.State.{places}
 use Rattle.text.specs.Text.{bytes}
@@ -44,6 +44,10 @@ cells_text = lines_of cell_text
 -- what place k adds to it: a line if the cell there has a writer, else nothing
 abbrev pub line_at : List ℕ → List ℕ → ℕ → List ℕ
 line_at memory writers k = cells_text (chosen_at (is_written writers) (cell_at memory writers) k)
+
+-- the same, by the byte and the writer number there
+abbrev pub line_of_cell : ℕ → ℕ → ℕ → List ℕ
+line_of_cell k byte event = cells_text (cond (not (eqb event 0)) (cell (k % 101) (k / 101) byte event ∷ []) [])
 
 unfoldable pub listing_of : List ℕ → List ℕ → List ℕ
 listing_of memory writers = header ++ cells_text (cells_of memory writers)

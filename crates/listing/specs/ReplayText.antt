@@ -1,5 +1,5 @@
 -- What is printed of a capture: the listing where it was replayed, the one line where it was refused.
-use Rattle.std.specs.Prelude.{List, [], ℕ, zero, suc, length}
+use Rattle.std.specs.Prelude.{List, [], ℕ, zero, suc, Result, length}
 use Rattle.registers.specs.Refusals.{lengths_refusal}
 use Rattle.print.specs.declared.Written.TheVariants.{Refused}
 use Rattle.print.specs.Printed.{Output, output, whole_text}
@@ -15,7 +15,7 @@ refused_text file (refused_at n s) out = whole_text 0 (refused_of file n) out
 refused_text file (replayed s) out = whole_text 0 [] out
 
 -- the memories say nothing of a refusal
-unfoldable pub refused_call : List ℕ → End → List ℕ → Output
+unfoldable pub refused_call : List ℕ → Result End ℕ → List ℕ → Output
 refused_call file end out = refused_text file (meaning end [] []) out
 
 abbrev pub text_of_replay : Replay → List ℕ → Output
@@ -28,5 +28,5 @@ text_unless zero out text = text
 text_unless (suc k) out text = output (Refused (suc k)) out
 
 -- 1: a lent memory isn't 1,717 long, whatever the capture came to
-unfoldable pub replay_text_call : End → List ℕ → List ℕ → List ℕ → Output
+unfoldable pub replay_text_call : Result End ℕ → List ℕ → List ℕ → List ℕ → Output
 replay_text_call end m w out = text_unless (lengths_refusal (length m) (length w)) out (text_of_replay (meaning end m w) out)

@@ -1,27 +1,24 @@
+use mathlib.Core.List.{◌++◌}
+use mathlib.Core.Path.{◌≡◌, ap, ◌∙◌}
+use Prim.Native.Nat.{ℕ}
 use native.Mathlib.Omega.{arith}
-use Rattle.print.proofs.Writing.{wrote-next, parts-turn, parts-end}
-use Rattle.listing.proofs.CodeWays.{listing-wrote}
-use borrow.Author.Rules.{rules}
+use Rattle.registers.specs.State.{places}
+use Rattle.print.specs.Printed.{parts_from}
+use Rattle.print.proofs.Writing.{prints-same}
+use Rattle.listing.specs.Listing.{header, line_at}
+use Rattle.listing.proofs.CodeWays.{part-after}
+use Rattle.listing.proofs.Lines.{listing-parts}
 use Rattle.listing.proofs.cells.Goals as goal
 
-pub loop-k-init : goal.loop-k-init
-loop-k-init c = (
-  search rules,
-  wrote-next c.bytes-at.ensures,
-  search rules,
-  λ l j w. w,
-)
+pub loop-place-init : goal.loop-place-init
+loop-place-init c = c.bytes.ensures
 
-pub loop-k-preserved : goal.loop-k-preserved
-loop-k-preserved c = (
-  search rules,
-  wrote-next c.cell_at-at.ensures,
-  search rules,
-  λ l j w. c.loop-k.invariant.3 l j
-      (parts-turn _ _ _ c.loop-k-test.true (omega arith) c.cell_at-at.ensures w),
-)
+pub loop-place-preserved : goal.loop-place-preserved
+loop-place-preserved c = part-after header (line_at c.args.memory.now c.args.writers.now) _ c.loop-place.invariant c.cell_at.ensures
 
 pub returns : goal.returns
 returns c =
-    listing-wrote _ _ (omega arith) c.bytes-at.ensures
-    (c.loop-k.invariant.3 _ _ (parts-end _ _ _ _ _ (omega arith) c.loop-k-test.false))
+    let given = c.args in
+    let all : c.loop-place.place ≡ places = omega arith in
+    prints-same (ap (λ (k : ℕ). header ++ parts_from (line_at given.memory.now given.writers.now) 0 k) all ∙ listing-parts given.memory.now given.writers.now)
+    c.loop-place.invariant

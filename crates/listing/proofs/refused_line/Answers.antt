@@ -1,8 +1,15 @@
-use native.Mathlib.Omega.{arith}
-use Rattle.listing.proofs.CodeWays.{refused-wrote}
+use mathlib.Core.List.{[], ◌∷◌, ◌++◌}
+use Prim.Native.Nat.{◌+◌}
+use Rattle.text.specs.Text.{bytes}
+use Rattle.print.specs.Printed.{decimal_of}
+use Rattle.print.proofs.Writing.{prints_then, prints-same}
+use Rattle.listing.specs.Listing.{refused_of}
+use Rattle.listing.proofs.CodeWays.{refused-fields}
 use Rattle.listing.proofs.refused_line.Goals as goal
 
 pub returns : goal.returns
+unfolding refused_of
 returns c =
-    refused-wrote _ _ (omega (arith, c.well_formed.1.1.1.0)) c.bytes-word.ensures c.bytes-before.ensures c.decimal_plus-number.ensures
-    c.byte.ensures
+    let given = c.args in
+    prints-same (refused-fields (bytes "refused" ++ (9 ∷ [])) given.file.now (decimal_of (given.n + given.k)))
+    (prints_then c.bytes.ensures (prints_then c.bytes-2.ensures (prints_then c.decimal_plus.ensures c.byte.ensures)))

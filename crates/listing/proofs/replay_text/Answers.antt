@@ -1,20 +1,27 @@
 use mathlib.Core.Path.{◌∙◌}
+use Rattle.refusals.specs.Numbers.{numbered}
 use Rattle.listing.specs.ReplayText.{replay_text_call}
-use Rattle.listing.proofs.CodeWays.{refused_end, text-refused, text-passed, text-whole}
+use Rattle.listing.proofs.CodeWays.{ended, not-whole, refused_end, unless-refused, unless-passed, text-refused, text-whole}
 use Rattle.listing.proofs.replay_text.Goals as goal
 
-pub returns-then-wrong-ne0 : goal.returns-then-wrong-ne0
+pub returns-in_err-lengths : goal.returns-in_err-lengths
 unfolding replay_text_call
-returns-then-wrong-ne0 c = text-refused _ _ _ _ c.of_lengths-wrong.ensures c.if-wrong-ne0.true
+returns-in_err-lengths c = unless-refused _ _ _ _ c.from_residual.ensures.1 c.in_err-lengths.ensures
+
+pub returns-in_err-end : goal.returns-in_err-end
+unfolding replay_text_call
+returns-in_err-end c = unless-passed _ c.in_ok-lengths.ensures (text-refused _ _ _ _ _ _ c.from_residual-in_err-end.ensures.1 c.in_err-end.was)
 
 pub returns-in_default : goal.returns-in_default
+unfolding replay_text_call
 returns-in_default c =
     let args = c.args in
-    text-passed args.end args.memory.now args.writers.now args.out.now _ _ c.of_lengths-wrong.ensures c.if-wrong-ne0.false
-    (c.refused.ensures ∙ refused_end args.end args.memory.now args.writers.now args.out.now c.in_default.not-Whole)
+    unless-passed _ c.in_ok-lengths.ensures
+    (c.refused.ensures ∙ refused_end (numbered args.end) args.memory.now args.writers.now args.out.now (not-whole c.in_ok-end.was c.in_default.not-Whole))
 
-pub returns : goal.returns
-returns c =
+pub returns-in-Whole : goal.returns-in-Whole
+unfolding replay_text_call
+returns-in-Whole c =
     let args = c.args in
-    text-passed args.end args.memory.now args.writers.now args.out.now _ _ c.of_lengths-wrong.ensures c.if-wrong-ne0.false
-    (c.listing.ensures ∙ text-whole _ _ args.end args.memory.now args.writers.now args.out.now c.in-Whole.is)
+    unless-passed _ c.in_ok-lengths.ensures
+    (c.listing.ensures ∙ text-whole _ _ (numbered args.end) args.memory.now args.writers.now args.out.now (ended c.in_ok-end.was c.in-Whole.is))
