@@ -1,14 +1,11 @@
--- Ways through the code, over plain variables: the counts of a memory, and a counting start.
+-- Ways through the code, over plain variables: the counts of a memory.
 use mathlib.Core.List.{List}
-use mathlib.Core.Path.{◌≡◌, refl, sym, ap, ◌∙◌}
-use Prim.Native.Nat.{ℕ, zero, suc, ◌+◌, ◌*◌, ◌≤◌}
+use mathlib.Core.Path.{◌≡◌, sym, ap, ◌∙◌}
+use Prim.Native.Nat.{ℕ, ◌+◌, ◌*◌, ◌≤◌}
 use native.Mathlib.Numerals.{add-one}
 use native.Mathlib.Omega.{arith}
-use lib.ListN.{get_or, length}
-use Rattle.registers.specs.declared.PixelCounts.{PixelCounts}
-use Rattle.registers.specs.Record.{by_value}
-use Rattle.registers.specs.Refusals.{length_refusal}
-use Rattle.pixel_counts.specs.Counts.{count_of, counts_of, counted, counting_start}
+use lib.ListN.{get_or}
+use Rattle.pixel_counts.specs.Counts.{count_of, counts_of}
 use Rattle.pixel_counts.specs.Mending.{shown}
 use Rattle.pixel_counts.proofs.Pixels.{shown-low}
 use Rattle.pixel_counts.proofs.Places.{in_places, next_place, no_place, by-places}
@@ -44,15 +41,3 @@ pub whole-memory :
 unfolding counts_of
 whole-memory m at a b c d e sa sb sc sd =
     simp (all-counted 0 m a (rw e at sa), all-counted 1 m b (rw e at sb), all-counted 2 m c (rw e at sc), all-counted 3 m d (rw e at sd))
-
--- ---- a counting start
-
-pub start-refused :
-    (m : List ℕ) (x : ℕ) → x ≡ length_refusal (length m) → (x ≡ 0 → ⊥) → counted x (by_value (λ v. 0)) ≡ counting_start m
-unfolding counting_start
-start-refused m zero e n = absurd (n refl)
-start-refused m (suc k) e n = rw (← e)
-
-pub start-done : (m : List ℕ) (x : ℕ) (n : PixelCounts) → x ≡ length_refusal (length m) → x ≡ 0 → n ≡ counts_of m → counted 0 n ≡ counting_start m
-unfolding counting_start
-start-done m x n e z h = rw (sym e ∙ z, h)

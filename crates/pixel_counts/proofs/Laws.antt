@@ -9,13 +9,14 @@ use native.Mathlib.Omega.{arith}
 use borrow.Author.Tests.{leb-true, leb-false, le-leb, eq-eqb, ne_eqb}
 use lib.Dec.{leb}
 use lib.ListN.{get_or, length, set, replicate}
+use Rattle.std.specs.Prelude.{Ok, Err}
 use Rattle.registers.specs.declared.PixelCounts.{PixelCounts}
 use Rattle.registers.specs.Record.{pixels, count_for, by_value, cleared, allowed_counts}
 use Rattle.registers.specs.State.{places}
 use Rattle.registers.proofs.Below.{true-false}
 use Rattle.registers.proofs.Within.{both_left, both_right, count-bound}
 use Rattle.glass.specs.Pixel.{value_in}
-use Rattle.pixel_counts.specs.Counts.{of_value, in_row, in_rows, in_glass_rows, count_of, counts_of, counted, counting_start}
+use Rattle.pixel_counts.specs.Counts.{of_value, in_row, in_rows, in_glass_rows, count_of, counts_of, counting_start}
 use Rattle.pixel_counts.specs.Mending.{shown, fits, moved, mendable, mended, StaysIn, GoesOut}
 use Rattle.pixel_counts.proofs.Pixels.{three-shown}
 use Rattle.pixel_counts.proofs.Places.{set-moves}
@@ -251,10 +252,10 @@ six_bits v place b h =
 -- ---- a counting start
 
 -- of a memory of its length its counts are true; of any other it is refused by 1, and gives none
-pub start-counts : (m : List ℕ) → length m ≡ places → counting_start m ≡ counted 0 (counts_of m)
+pub start-counts : (m : List ℕ) → length m ≡ places → counting_start m ≡ Ok (counts_of m)
 unfolding counting_start
 start-counts m h = simp (eq-eqb _ _ h)
 
-pub start-refused : (m : List ℕ) → (length m ≡ places → ⊥) → counting_start m ≡ counted 1 (by_value (λ v. 0))
+pub start-refused : (m : List ℕ) → (length m ≡ places → ⊥) → counting_start m ≡ Err 1
 unfolding counting_start
 start-refused m n = simp (ne_eqb _ _ n)

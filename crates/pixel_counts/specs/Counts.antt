@@ -1,11 +1,11 @@
 -- How many pixels of the glass have each value (document 02, W8), counted one by one over its 67 rows and 101 columns.
-use Rattle.std.specs.Prelude.{cond, List, ◌≡◌, ℕ, zero, suc, ◌+◌, ◌%◌, eqb, get_or, length}
+use Rattle.std.specs.Prelude.{cond, List, Result, ◌≡◌, ℕ, zero, suc, ◌+◌, ◌%◌, eqb, get_or, length}
 use Rattle.registers.specs.declared.PixelCounts.{PixelCounts}
 use Rattle.registers.specs.Record.{by_value}
 use Rattle.registers.specs.Refusals.{length_refusal}
 use Rattle.registers.specs.State.{State}
 use Rattle.glass.specs.Pixel.{ram_row, place_at, value_in}
-use Rattle.pixel_counts.specs.declared.Counted.{Counted}
+use Rattle.glass.specs.Glass.{told_unless}
 
 -- the value of the pixel in this row and column of the memory
 abbrev pub value_at : List ℕ → ℕ → ℕ → ℕ
@@ -42,13 +42,6 @@ TrueCounts s = s.chip.pixels ≡ counts_of s.memory
 
 -- ---- a counting start, from display memory alone
 
-abbrev pub counted : ℕ → PixelCounts → Counted
-counted k n = record { refusal = k; pixels = n }
-
--- refused by 1, with no counts; or the counts
-abbrev pub counted_unless : ℕ → List ℕ → Counted
-counted_unless zero m = counted 0 (counts_of m)
-counted_unless (suc k) m = counted (suc k) (by_value (λ v. 0))
-
-unfoldable pub counting_start : List ℕ → Counted
-counting_start m = counted_unless (length_refusal (length m)) m
+-- refused by 1, or the counts
+unfoldable pub counting_start : List ℕ → Result PixelCounts ℕ
+counting_start m = told_unless (length_refusal (length m)) (counts_of m)
