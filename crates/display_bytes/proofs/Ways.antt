@@ -7,8 +7,11 @@ use native.Mathlib.Numerals.{add-one}
 use native.Mathlib.Omega.{arith}
 use borrow.Author.Tests.{ltb-true, ltb-false, lt-ltb, le-ltb, eq-eqb, ne_eqb}
 use lib.Dec.{eqb, ltb}
-use lib.ListN.{length, get_or, drop, set}
+use lib.ListN.{length, get_or, drop, set, take}
 use lib.Seq.{drop-cons, drop-length}
+use Rattle.std.specs.Prelude.{Option, Some, None}
+use Rattle.std.proofs.lemmas.List.{get_or-take, length-take-le}
+use Rattle.std.proofs.lemmas.Option.{cond_some, none-some}
 use Rattle.registers.specs.declared.PixelCounts.{PixelCounts}
 use Rattle.registers.specs.declared.Registers.{Registers}
 use Rattle.display.specs.Display.{stored_of, place_of, next_address, pixels_fit, pixels_after}
@@ -130,6 +133,34 @@ module _ (es : List ℕ) (r₀ : Registers) (n₀ : PixelCounts) (m₀ w₀ : Li
             → stretch_from k (drop k es) r n m w number ≡ stretched k (drop k es) r n m w number
         go true q = full es k r n m w number (drop k es) (eq-eqb number (2 ^ 64 - 1) (omega (arith, loop.counted, q, small)))
         go false q = over es k r n m w number q
+
+-- ---- the events up to an end
+
+module _ (es : List ℕ) (end k : ℕ) (inside : end ≤ length es) where
+  pub part-length : length (take end es) ≡ end
+  part-length = length-take-le end es inside
+
+  pub part-event : k < end → get_or (take end es) k 0 ≡ get_or es k 0
+  part-event h = get_or-take end es k 0 h
+
+-- ---- event e is byte b, and the code made x of the counts: those after it, if it is taken
+
+module _ (e b : ℕ) (r : Registers) (n : PixelCounts) (m : List ℕ) (count : ℕ) (x : Option PixelCounts) (is : b ≡ e) (byte : e < 256) (room : count + 1 < 2 ^ 64)
+    (made : x ≡ cond (pixels_fit r n m b) (Some (pixels_after r n m b)) None) where
+  told : (t : Bool) → pixels_fit r n m b ≡ t → taken e r n m count ≡ t
+  told t q = byte-told e r n m count t byte room (sym q ∙ ap (λ (y : ℕ). pixels_fit r n m y) is)
+
+  pub made-none : x ≡ None → taken e r n m count ≡ false
+  made-none none = go (pixels_fit r n m b) refl made
+    where
+      go : (t : Bool) → pixels_fit r n m b ≡ t → x ≡ cond t (Some (pixels_after r n m b)) None → taken e r n m count ≡ false
+      go true q h = absurd (none-some _ (sym none ∙ h))
+      go false q h = told false q
+
+  pub made-some : (n' : PixelCounts) → x ≡ Some n' → (taken e r n m count ≡ true) × (n' ≡ pixels_after r n m e)
+  made-some n' some =
+      let fit = cond_some (pixels_fit r n m b) (pixels_after r n m b) n' (sym made ∙ some) in
+      (told true fit.0, sym fit.1 ∙ ap (λ (y : ℕ). pixels_after r n m y) is)
 
 -- ---- the room in the count
 

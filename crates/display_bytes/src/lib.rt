@@ -11,7 +11,7 @@ mod packed;
 mod plain;
 
 // How many events were done, and the address and the pixels by value then.
-#[derive(Clone, Copy)]
+#[derive(Clone, Copy, Debug, PartialEq, Eq, Hash)]
 pub struct Stretch {
     pub done: usize,
     pub x: u8,
@@ -23,11 +23,12 @@ pub struct Stretch {
 pub fn room(count: u64, events: usize) -> usize
     ensures { result ≡ room_for count events }
 {
-    let left = 18446744073709551615 - count;
+    let left = u64::MAX - count;
     if left < events as u64 {
-        return left as usize;
+        left as usize
+    } else {
+        events
     }
-    events
 }
 
 // Whether the packed counts will do: every place is inside the memories, and no more pixels are counted than there are.
@@ -38,7 +39,10 @@ fn is_ordinary(registers: Registers, pixels: PixelCounts, memory: usize, writers
         & (registers.y <= 16)
         & (memory == 1717)
         & (writers == 1717)
-        & (pixels.zeros as u32 + pixels.ones as u32 + pixels.twos as u32 + pixels.threes as u32
+        & (u32::from(pixels.zeros)
+            + u32::from(pixels.ones)
+            + u32::from(pixels.twos)
+            + u32::from(pixels.threes)
             <= 6767)
 }
 

@@ -43,7 +43,7 @@ fn four_pixels(two: &[u64; 16], byte: u8) -> u64
     requires { two.now ≡ two_pixels }
     ensures { result ≡ packed_of (four_pixels byte) }
 {
-    two[(byte % 16) as usize] + two[(byte / 16) as usize]
+    two[usize::from(byte % 16)] + two[usize::from(byte / 16)]
 }
 
 // The four counts as one number, sixteen bits to a value.
@@ -51,10 +51,10 @@ fn packed(pixels: PixelCounts) -> u64
     requires { total pixels ≤ 6767 }
     ensures { result ≡ packed_of pixels }
 {
-    pixels.zeros as u64
-        + 65536 * pixels.ones as u64
-        + 4294967296 * pixels.twos as u64
-        + 281474976710656 * pixels.threes as u64
+    u64::from(pixels.zeros)
+        + 65536 * u64::from(pixels.ones)
+        + 4294967296 * u64::from(pixels.twos)
+        + 281474976710656 * u64::from(pixels.threes)
 }
 
 fn unpacked(sum: u64) -> PixelCounts
@@ -92,13 +92,14 @@ fn ordered(reversed: &[u8; 256], data_order: u8, byte: u8) -> u8
     ensures { result ≡ ordered data_order byte }
 {
     if data_order == 1 {
-        reversed[byte as usize]
+        reversed[usize::from(byte)]
     } else {
         byte
     }
 }
 
 // As `display::stored`, by a table that is lent.
+#[tactic(auto, unfolding(display::specs::Display::stored_of))]
 fn stored(reversed: &[u8; 256], registers: Registers, byte: u8) -> u8
     requires { Reversing reversed.now }
     ensures { result ≡ stored_of registers byte }
@@ -126,14 +127,12 @@ pub fn bytes(
     let mut at = registers;
     let mut sum = packed(pixels);
     let mut number = count;
-    let mut done = 0;
-    while done < end {
-        let event = events[done];
-        if 255 < event {
+    for event in &events[..end] {
+        let Ok(byte) = u8::try_from(*event) else {
             break;
-        }
+        };
         let place = display::place(at);
-        let new = stored(&reversed, at, event as u8);
+        let new = stored(&reversed, at, byte);
         let old = display::kept_in_bank(at.y, memory[place]);
         let next = exchanged(&two, sum, old, new);
         if !none_below(next) {
@@ -144,10 +143,9 @@ pub fn bytes(
         memory[place] = new;
         writers[place] = number;
         at = display::moved_on(at);
-        done += 1;
     }
     Stretch {
-        done,
+        done: (number - count) as usize,
         x: at.x,
         y: at.y,
         pixels: unpacked(sum),

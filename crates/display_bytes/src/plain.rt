@@ -36,20 +36,16 @@ pub fn bytes(
     let mut at = registers;
     let mut shown = pixels;
     let mut number = count;
-    let mut done = 0;
-    while done < end {
-        let event = events[done];
-        if 255 < event {
+    for (done, event) in events[..end].iter().enumerate() {
+        let Ok(byte) = u8::try_from(*event) else {
             return ended(done, at, shown);
-        }
-        let mended = display::mend(at, shown, memory, event as u8);
-        if !mended.fit {
+        };
+        let Some(mended) = display::mend(at, shown, memory, byte) else {
             return ended(done, at, shown);
-        }
-        shown = mended.pixels;
+        };
+        shown = mended;
         number += 1;
-        at = display::display_byte(at, memory, writers, event as u8, number);
-        done += 1;
+        at = display::display_byte(at, memory, writers, byte, number);
     }
-    ended(done, at, shown)
+    ended(end, at, shown)
 }

@@ -1,17 +1,9 @@
 // The counts mended where one byte takes the place of another: the pixels of the old byte leave, those of the new one join.
-ghost use Rattle.std.specs.Prelude.{◌≡◌};
+ghost use Rattle.std.specs.Prelude.{cond, ◌≡◌, Some, None};
 ghost use Rattle.pixel_counts.specs.Mending.{fits, moved, all_fit, all_moved, mendable, mended};
 
 use crate::shown::shown;
 use registers::PixelCounts;
-
-// The counts of the four values after a byte has taken another's place. Where one of them would leave its range, `fit` is false, and the counts mean
-// nothing.
-#[derive(Clone, Copy)]
-pub struct Mended {
-    pub fit: bool,
-    pub pixels: PixelCounts,
-}
 
 // A count that `left` pixels leave and `joined` pixels join would be neither below 0 nor above that of all pixels.
 fn fits(count: u16, left: u16, joined: u16) -> bool
@@ -58,15 +50,16 @@ pub fn mendable(pixels: PixelCounts, place: usize, old: u8, new: u8) -> bool
     all_fit(pixels, shown(place, old), shown(place, new))
 }
 
-// The same, and the counts then: the bytes are looked at once for both.
-pub fn mend(pixels: PixelCounts, place: usize, old: u8, new: u8) -> Mended
-    ensures fit_value { result.fit ≡ mendable pixels place old new }
-    ensures pixels_value { result.pixels ≡ mended pixels place old new }
+// The counts of the four values then, if they do: the bytes are looked at once for both.
+#[tactic(auto, unfolding(crate::specs::Mending::mendable, crate::specs::Mending::mended))]
+pub fn mend(pixels: PixelCounts, place: usize, old: u8, new: u8) -> Option<PixelCounts>
+    ensures { result ≡ cond (mendable pixels place old new) (Some (mended pixels place old new)) None }
 {
     let left = shown(place, old);
     let joined = shown(place, new);
-    Mended {
-        fit: all_fit(pixels, left, joined),
-        pixels: all_moved(pixels, left, joined),
+    if all_fit(pixels, left, joined) {
+        Some(all_moved(pixels, left, joined))
+    } else {
+        None
     }
 }
