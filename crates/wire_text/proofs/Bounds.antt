@@ -14,8 +14,7 @@ use Rattle.wire_samples.specs.declared.Stage.TheVariants as stages
 use Rattle.wire_samples.specs.declared.Wires.{Wires}
 use Rattle.wire_samples.specs.declared.signal.Signal.{Signal}
 use Rattle.wire_samples.specs.declared.signal.Signal.TheVariants.{Quiet, Start, Stop, Bit, Unclear}
-use Rattle.wire_samples.specs.declared.sample.Told.{Told}
-use Rattle.wire_samples.specs.declared.sample.Told.TheVariants.{Nothing, Event}
+use Rattle.std.specs.Prelude.{Option, None, Some}
 use Rattle.wire_samples.specs.Signal.{signal_of}
 use Rattle.wire_samples.specs.Sample.{quiet, anew, is_waiting, on_stop, in_message, one_bit_more, event_of, byte_done, on_bit}
 use Rattle.wire_samples.specs.Sample.{on_signal, sample_of, told_by}
@@ -31,14 +30,14 @@ use Rattle.wire_text.proofs.Samples.{no_more, are-samples-in}
 
 -- ---- one sample
 
-line_of : Told → List ℕ
+line_of : Option ℕ → List ℕ
 line_of t = lines_of event_line (told_by t)
 
-short : (e : ℕ) → e < 1000 → length (line_of (Event e)) ≤ 4
+short : (e : ℕ) → e < 1000 → length (line_of (Some e)) ≤ 4
 unfolding line_of
 short e h = simp length-append (omega (arith, decimal-bound 2 e h))
 
-none : length (line_of Nothing) ≤ 4
+none : length (line_of None) ≤ 4
 unfolding line_of
 none = omega arith
 
@@ -64,7 +63,7 @@ module _ (w : Wires) (r : InRanges w) (s : ℕ) where
   unfolding on_stop
   of-stop = go (is_waiting w.stage)
     where
-      go : (t : Bool) → length (line_of (cond t (anew w s stages.Waiting Nothing) (anew w s stages.Outside (Event 257))).told) ≤ 4
+      go : (t : Bool) → length (line_of (cond t (anew w s stages.Waiting None) (anew w s stages.Outside (Some 257))).told) ≤ 4
       go true = none
       go false = short 257 (omega arith)
 

@@ -1,24 +1,13 @@
-use mathlib.Core.Path.{refl}
-use native.Mathlib.Omega.{arith}
-use Rattle.print.proofs.Writing.{wrote-next}
-use Rattle.wire_text.proofs.CodeWays.{line-turn, lines_end}
-use borrow.Author.Rules.{rules}
+use Rattle.std.proofs.Common.{arith, rules}
+use Rattle.print.proofs.Writing.{prints_none}
+use Rattle.wire_text.proofs.CodeWays.{lines-next, lines-all}
 use Rattle.wire_text.proofs.events.lines.Goals as goal
 
-pub loop-i-init : goal.loop-i-init
-loop-i-init c = (search rules, search rules, refl, λ l j w. w)
+pub loop-event-init : goal.loop-event-init
+loop-event-init c = prints_none _ (omega arith)
 
-pub loop-i-preserved : goal.loop-i-preserved
-loop-i-preserved c =
-    let events = c.args.events.now in (
-      search rules,
-      wrote-next c.field-next.ensures,
-      search rules,
-      λ l j w. c.loop-i.invariant.3 l j
-          (line-turn events _ _ c.loop-i-test.true (omega arith) c.number.ensures c.field-next.ensures w),
-    )
+pub loop-event-preserved : goal.loop-event-preserved
+loop-event-preserved c = lines-next _ _ c.loop-event-test.true c.loop-event.invariant (search rules)
 
 pub returns : goal.returns
-returns c =
-    let events = c.args.events.now in
-    c.loop-i.invariant.3 _ _ (lines_end events _ _ _ c.loop-i.invariant.1 c.loop-i-test.false)
+returns c = lines-all _ _ c.loop-event-test.false c.loop-event.invariant

@@ -1,53 +1,32 @@
-use mathlib.Core.Path.{refl, sym, ◌∙◌}
-use native.Mathlib.Omega.{arith}
-use Rattle.wire_text.proofs.CodeWays.{in-ranges, ranges-allow, some-length, some_good, none_told, some-told, all-are-told}
-use borrow.Author.Rules.{rules}
+use Rattle.std.proofs.Common.{arith, refl, ◌∙◌, ap}
+use Rattle.std.specs.Slice.Iter.{chunks_rest, chunks_size}
+use Rattle.wire_text.proofs.CodeWays.{in-ranges, ranges-allow, some_good, none_told, some-told, all-after, all-printed}
 use Rattle.wire_text.proofs.events.tell.Goals as goal
 
-pub loop-from-init : goal.loop-from-init
-loop-from-init c = (search rules, refl, c.room-events.ensures, none_told _ _ _ _ (search rules))
+pub loop-some-init : goal.loop-some-init
+loop-some-init c = (
+  ap chunks_size c.into_iter-some-iterator.ensures.into_iter_gives ∙ c.chunks-some-items.ensures.size,
+  refl,
+  none_told _ _ _ (in-ranges c.args.wires c.requires.wires_allowed (omega (arith, c.well_formed))) c.requires.all_samples (omega arith) _
+      (ap chunks_rest c.into_iter-some-iterator.ensures.into_iter_gives ∙ c.chunks-some-items.ensures.rest),
+)
 
-pub slice_bounds-tell_some-count : goal.slice_bounds-tell_some-count
-slice_bounds-tell_some-count c = let later = c.next_end-end.ensures.2 c.loop-from-test.true in omega arith
+pub tell_some-after-requires-clause-wires_allowed : goal.tell_some-after-requires-clause-wires_allowed
+tell_some-after-requires-clause-wires_allowed c = ranges-allow c.loop-some.invariant.2.ranges
 
-pub slice_bounds-tell_some-start : goal.slice_bounds-tell_some-start
-slice_bounds-tell_some-start c = let later = c.next_end-end.ensures.2 c.loop-from-test.true in omega arith
+pub tell_some-after-requires-clause-all_samples : goal.tell_some-after-requires-clause-all_samples
+tell_some-after-requires-clause-all_samples c = some_good _ _ _ c.loop-some.invariant.2 _ _ c.in-Some.ensures.steps.1.0
 
-pub slice_bounds-tell_some-end : goal.slice_bounds-tell_some-end
-slice_bounds-tell_some-end c = omega arith
+pub loop-some-preserved : goal.loop-some-preserved
+loop-some-preserved c = (
+  c.in-Some.ensures.steps.0 ∙ c.loop-some.invariant.0,
+  omega arith,
+  some-told _ _ _ c.loop-some.invariant.2 _ _ c.in-Some.ensures.steps.1.0 c.tell_some-after.ensures.after
+      c.tell_some-after.ensures.told,
+)
 
-pub slice_bounds-tell_some-end-in-loop-from : goal.slice_bounds-tell_some-end-in-loop-from
-slice_bounds-tell_some-end-in-loop-from c = c.loop-from.invariant.2
+pub returns-clause-after : goal.returns-clause-after
+returns-clause-after c = all-after _ _ _ c.loop-some.invariant.2 c.in-None.ensures.steps.1.0
 
-pub tell_some-so_far-requires : goal.tell_some-so_far-requires
-tell_some-so_far-requires c =
-    let samples = c.args.samples.now in
-    let from = c.loop-from.from in
-    let end = c.next_end-end.result in
-    let later = c.next_end-end.ensures.2 c.loop-from-test.true in
-    let ranges = in-ranges c.args.course.wires c.requires.wires_allowed (omega (arith, c.well_formed.0)) in
-    record {
-      wires_allowed = ranges-allow (c.loop-from.invariant.3.ranges ranges);
-      all_samples = some_good samples from end (omega arith) (omega arith) c.requires.all_samples;
-      room = omega (arith, some-length samples from end (omega arith) (omega arith), c.loop-from.invariant.2);
-    }
-
-pub loop-from-smaller : goal.loop-from-smaller
-loop-from-smaller c =
-    let later = c.next_end-end.ensures.2 c.loop-from-test.true in
-    omega (arith, later)
-
-pub loop-from-preserved : goal.loop-from-preserved
-loop-from-preserved c =
-    let later = c.next_end-end.ensures.2 c.loop-from-test.true in (
-      search rules,
-      search rules,
-      c.loop-from.invariant.2 ∙ sym c.tell_some-so_far.auto.events,
-      some-told _ _ _ _ c.loop-from.invariant.3 _ (omega arith) (omega arith) c.requires.all_samples (omega arith)
-          (c.tell_some-so_far.ensures.wires, c.tell_some-so_far.ensures.wrote),
-    )
-
-pub returns : goal.returns
-returns c =
-    let ended = all-are-told _ _ _ _ c.loop-from.invariant.3 c.loop-from-test.false in
-    record { wires = ended.0; wrote = ended.1 }
+pub returns-clause-told : goal.returns-clause-told
+returns-clause-told c = all-printed _ _ _ c.loop-some.invariant.2 c.in-None.ensures.steps.1.0

@@ -1,15 +1,8 @@
-use mathlib.Core.Path.{◌≡◌}
-use Prim.Native.Nat.{◌-◌, ◌≤◌}
-use lib.ListN.{length}
+use Rattle.std.proofs.Common.{◌≡◌, length}
+use Rattle.std.specs.Slice.Iter.{chunks_rest, chunks_size}
 use Rattle.wire_text.proofs.CodeWays.{ToldSoFar}
 use Rattle.wire_text.proofs.events.tell.Given as goal
 
-abbrev pub invariant-loop-from : goal.invariant-loop-from
-invariant-loop-from l =
-    (l.from ≤ length l.samples)
-    × (length l.out ≡ length l.initial.out)
-    × (4096 ≡ length l.events)
-    × ToldSoFar l.initial.so_far.wires l.initial.so_far.length l.samples l.initial.out l.from l.so_far.length l.so_far.wires l.out
-
-abbrev pub decreases-loop-from : goal.decreases-loop-from
-decreases-loop-from l = length l.samples - l.from
+abbrev pub invariant-loop-some : goal.invariant-loop-some
+invariant-loop-some l =
+    (chunks_size l.some-iterator ≡ 4096) × (length l.events ≡ 4096) × ToldSoFar l.fn.wires l.samples l.initial.out (chunks_rest l.some-iterator) l.after l.out

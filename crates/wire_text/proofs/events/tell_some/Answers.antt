@@ -1,6 +1,6 @@
 use mathlib.Core.Path.{sym, ap}
 use lib.Seq.{length-take-le}
-use Rattle.print.proofs.Writing.{wrote-same}
+use Rattle.print.proofs.Writing.{prints-same}
 use Rattle.print.specs.Chosen.{lines_of}
 use Rattle.wire_text.specs.Capture.{event_line}
 use Rattle.wire_text.proofs.CodeWays.{all-fed}
@@ -27,4 +27,4 @@ returns c =
     let told = c.feed-fed.ensures in
     let fed =
     all-fed _ _ c.args.events.now (pre.wires_allowed, (pre.all_samples, pre.room)) _ _ (told.value, told.events_after) in
-    record { wires = fed.wires; wrote = wrote-same (ap (lines_of event_line) fed.events) c.lines.ensures }
+    record { after = fed.wires; told = prints-same (ap (lines_of event_line) fed.events) c.lines.ensures }
