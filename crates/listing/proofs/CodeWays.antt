@@ -90,6 +90,12 @@ not-whole {e} {x} w t c n q =
     let same : ◌≡◌ {A = Result End ℕ} (Ok x) (Ok (ends.Whole c n)) = sym (ap numbered w) ∙ q in
     t c n (cc same)
 
+pub err-not-whole : {e : Result End Refusal} {r : Refusal} → e ≡ Err r → NotWhole (numbered e)
+err-not-whole {e} {r} w c n q =
+    let same : ◌≡◌ {A = Result End ℕ} (Err (number r)) (Ok (ends.Whole c n)) = sym (ap numbered w) ∙ q in
+    let z : ◌≡◌ {A = ℕ} 0 1 = cc same in
+    absurd (omega arith)
+
 pub refused_end :
     (e : Result End ℕ) (m w out : List ℕ) → NotWhole e → refused_call [] e out ≡ text_of_replay (meaning e m w) out
 unfolding refused_call meaning
@@ -112,14 +118,7 @@ unless-refused (Err u) r {k} out text h e = rw (h, ← e) (unless-number (number
 pub unless-passed : {k : ℕ} (out : List ℕ) {o text : Output} → 0 ≡ k → o ≡ text → o ≡ text_unless k out text
 unless-passed out e w = rw (← e) w
 
--- what is printed of a refusal, and of a replay
-pub text-refused :
-    (o : Result ℕ Unprinted) (e : Result End Refusal) (r : Refusal) (m w out : List ℕ) → IsErrAnd o (λ (u : Unprinted). u ≡ unprinted.Refused r) → e ≡ Err r
-    → output (written_of o) out ≡ text_of_replay (meaning (numbered e) m w) out
-unfolding meaning
-text-refused (Ok n) e r m w out h is = absurd h
-text-refused (Err u) e r m w out h is = rw (h, is)
-
+-- what is printed of a replay
 pub text-whole :
     (c : Chip) (n : ℕ) (e : Result End ℕ) (m w out : List ℕ) → e ≡ Ok (ends.Whole c n) → listing_call m w out ≡ text_of_replay (meaning e m w) out
 unfolding meaning

@@ -2,8 +2,9 @@
 use mathlib.Core.Bool.{true}
 use mathlib.Core.List.{List}
 use mathlib.Core.Logic.{◌⊎◌, inl, inr}
-use mathlib.Core.Path.{◌≡◌, refl, sym, ap, ap₂, ◌∙◌}
+use mathlib.Core.Path.{◌≡◌, refl, sym, ap, ap₂, ◌∙◌, subst}
 use Prim.Native.Nat.{ℕ, zero, suc, ◌+◌, ◌%◌, ◌≤◌, ◌<◌}
+use Rattle.std.specs.Prelude.{Result, Ok}
 use native.Mathlib.Nat.{zero-add}
 use native.Mathlib.Omega.{arith}
 use borrow.Author.Tests.{eq-eqb, ne_eqb}
@@ -11,11 +12,10 @@ use lib.ListN.{length, get_or, get_or-replicate}
 use Rattle.registers.specs.declared.Chip.{Chip}
 use Rattle.registers.specs.Record.{allowed}
 use Rattle.registers.specs.State.{State, places}
-use Rattle.glass.specs.declared.answer.Cell.TheVariants as cell
 use Rattle.glass.specs.declared.answer.Shown.{Shown}
-use Rattle.glass.specs.Glass.{ram_row_of, cell_of}
+use Rattle.glass.specs.Glass.{ram_row_of, cell_of, glass_of}
 use Rattle.glass.specs.Pixel.{ram_row, value_in, place_at}
-use Rattle.glass.specs.When.{OnGlass}
+use Rattle.glass.specs.When.{OnGlass, Tells}
 use Rattle.glass.proofs.Laws.{place-shown, place-within, stands-in-byte, tells}
 use Rattle.glass.proofs.Views.{my-bound}
 use Rattle.chip.specs.LastWriter.{LastStored}
@@ -84,7 +84,7 @@ abbrev pub origin_of : State → ℕ → ℕ → Origin
 origin_of end row column = origin_at end.chip end.memory end.writers row column (place_at (ram_row_of end.chip row) column)
 
 module _ (text : List ℕ) (end : State) (r : Replayed text zeros zeros end) (row column : ℕ) (on : OnGlass row column) where
-  pub place-told : cell_of end.chip row column ≡ cell.At (origin_of end row column).place
+  pub place-told : cell_of end.chip row column ≡ Ok (origin_of end row column).place
   place-told = place-shown end.chip row column ((end-fit text zeros zeros end r).is-allowed, on)
 
   pub answered : Answers text r.pins r.events end row column (origin_of end row column)
@@ -92,6 +92,8 @@ module _ (text : List ℕ) (end : State) (r : Replayed text zeros zeros end) (ro
       let fit : Fit end = end-fit text zeros zeros end r in
       let p : ℕ = (origin_of end row column).place in
       let inside = place-within end.chip row column p place-told in
+      let shown : glass_of end.chip end.memory row column ≡ Ok (origin_of end row column).shows =
+      stands-in-byte end.chip end.memory row column p fit.memory_long place-told in
       record {
         row_asked = refl;
         column_asked = refl;
@@ -104,9 +106,9 @@ module _ (text : List ℕ) (end : State) (r : Replayed text zeros zeros end) (ro
           in_column = inside.2;
           at_place = omega (arith, inside.2);
         };
-        shows = refl;
-        by_byte = stands-in-byte end.chip end.memory row column p fit.memory_long place-told;
-        told = tells end.chip end.memory row column (fit.memory_long, fit.is-allowed, on);
+        shows = shown;
+        by_byte = refl;
+        told = subst (λ (s : Result Shown ℕ). Tells s) shown (tells end.chip end.memory row column (fit.memory_long, fit.is-allowed, on));
         value = refl;
         value_there = value-bound (get_or end.memory p 0) (ram_row_of end.chip row % 4);
         writer = written-by text end r (origin_of end row column) inside.0 refl refl;
@@ -155,10 +157,12 @@ module _ (text : List ℕ) (pins : ℕ) (es : List ℕ) (o q : Origin) (place : 
 module _ (text : List ℕ) (pins : ℕ) (es : List ℕ) (end : State) (row column : ℕ) (o q : Origin) where
   pub same_answer : Answers text pins es end row column o → Answers text pins es end row column q → o ≡ q
   same_answer a b =
-      let at_one : cell.At o.place ≡ cell.At q.place = sym a.is_place ∙ b.is_place in
+      let at_one : ◌≡◌ {A = Result ℕ ℕ} (Ok o.place) (Ok q.place) = sym a.is_place ∙ b.is_place in
       let place : o.place ≡ q.place = cc at_one in
+      let both_shown : ◌≡◌ {A = Result Shown ℕ} (Ok o.shows) (Ok q.shows) = sym a.shows ∙ b.shows in
+      let shows : o.shows ≡ q.shows = cc both_shown in
       let ram : o.ram ≡ q.ram = one-row end.chip.registers.my row o.ram q.ram a.stands.row_of b.stands.row_of in
       let written = one_writer text pins es o q place a.writer b.writer in
       let value : o.value ≡ q.value = a.value ∙ ap₂ value_in written.0 (ap (λ (r : ℕ). r % 4) ram) ∙ sym b.value in
-      same-origin o q (a.row_asked ∙ sym b.row_asked) (a.column_asked ∙ sym b.column_asked) (a.shows ∙ sym b.shows) ram place written.0 value
+      same-origin o q (a.row_asked ∙ sym b.row_asked) (a.column_asked ∙ sym b.column_asked) shows ram place written.0 value
       written.1

@@ -28,7 +28,6 @@ shown-bound : (s : Shown) → Told s → length (shown_text s) ≤ 8
 shown-bound (shown.Level g) h = omega (arith, length-append (bytes "level ") (decimal_of g), decimal-bound 1 g (omega arith))
 shown-bound shown.Dark h = omega arith
 shown-bound shown.Undriven h = omega arith
-shown-bound (shown.Refused n) h = absurd h
 
 -- what the words of a machine hold, and what the glass tells
 pub record Fits (o : Origin) : Type 0 where

@@ -4,12 +4,11 @@ use mathlib.Core.Logic.{◌⊎◌, inl, inr, ◌↔◌, ⊎_elim}
 use mathlib.Core.Path.{◌≡◌, refl, sym, ap, ◌∙◌, subst}
 use Prim.Native.Nat.{ℕ, suc, ◌+◌, ◌*◌, ◌/◌, ◌%◌}
 use native.Mathlib.Omega.{arith}
+use Rattle.std.specs.Prelude.{Result, Ok, Err}
 use lib.ListN.{length, get_or}
 use Rattle.registers.specs.declared.Chip.{Chip}
 use Rattle.registers.specs.Refusals.{lengths_refusal}
 use Rattle.registers.specs.State.{State}
-use Rattle.glass.specs.declared.answer.Cell.{Cell}
-use Rattle.glass.specs.declared.answer.Cell.TheVariants as cells
 use Rattle.glass.specs.declared.answer.Shown.TheVariants as shown
 use Rattle.glass.specs.Glass.{cell_of}
 use Rattle.glass.specs.When.{OnGlass, PlaceWhen}
@@ -55,7 +54,7 @@ one_answer text pins es end row column o q a b = same_answer text pins es end ro
 
 -- and that is what is printed of it, whole where there is room
 pub who-prints :
-    (text m w out : List ℕ) (e : End) (end : State) (row column : ℕ) → OnGlass row column
+    (text m w out : List ℕ) (e : Result End ℕ) (end : State) (row column : ℕ) → OnGlass row column
     → meaning e m w ≡ replay_of text zeros zeros → (h : replay_of text zeros zeros ≡ replayed end)
     → TellsWho text ((is-replayed text zeros zeros end).0 h).pins ((is-replayed text zeros zeros end).0 h).events end row column out
     (origin_text_call e m w row column out)
@@ -81,7 +80,7 @@ who-prints text m w out e end row column on same h =
 
 -- what is printed of a capture that is refused at a line: that line alone, whatever row and column were asked for
 pub refusal-prints :
-    (m w out : List ℕ) (e : End) (n : ℕ) (s : State) (row column : ℕ) → Lent m w → meaning e m w ≡ refused_at n s
+    (m w out : List ℕ) (e : Result End ℕ) (n : ℕ) (s : State) (row column : ℕ) → Lent m w → meaning e m w ≡ refused_at n s
     → origin_text_call e m w row column out ≡ whole_text 0 (refused_of [] n) out
 unfolding origin_text_call
 refusal-prints m w out e n s row column lent same = rw (lent-passes m w lent, same)
@@ -108,9 +107,9 @@ as-listed text end r row column on =
 -- ---- refusals by a number
 
 module _ (c : Chip) (m w : List ℕ) (row column : ℕ) (out : List ℕ) where
-  told-refused : (found : Cell) (k : ℕ) → (told_at c m w row column found out).answer ≡ Refused (suc k) → found ≡ cells.Refused (suc k)
-  told-refused (cells.Refused n) k e = let same : n ≡ suc k = cc e in ap cells.Refused same
-  told-refused (cells.At p) k e =
+  told-refused : (found : Result ℕ ℕ) (k : ℕ) → (told_at c m w row column found out).answer ≡ Refused (suc k) → found ≡ Err (suc k)
+  told-refused (Err n) k e = let same : n ≡ suc k = cc e in ap (λ (i : ℕ). Err i) same
+  told-refused (Ok p) k e =
       let none = ((refused-exactly 0 (origin_text (origin_at c m w row column p)) out (suc k)).0 e).0 in
       absurd (omega (arith, none))
 

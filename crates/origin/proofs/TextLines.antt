@@ -41,7 +41,6 @@ shown-free : (s : Shown) → count_of 10 (bytes "shows" ++ 9 ∷ shown_text s) �
 shown-free (shown.Level g) = number-free 10 g (omega arith)
 shown-free shown.Dark = refl
 shown-free shown.Undriven = refl
-shown-free (shown.Refused n) = refl
 
 -- a name, a tab and a number
 abbrev pub tabbed : List ℕ → ℕ → List ℕ

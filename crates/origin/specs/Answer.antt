@@ -1,11 +1,10 @@
 -- The crew's question in one statement: a pixel is pointed at; what is told of it, held against the capture and not against the memories. Read this after
 -- chip/specs/LastWriter.antt, whose words it uses.
-use Rattle.std.specs.Prelude.{List, [], ◌⊎◌, ◌≡◌, ℕ, ◌+◌, ◌*◌, ◌/◌, ◌%◌, ◌-◌, ◌≤◌, ◌<◌, length, get_or}
+use Rattle.std.specs.Prelude.{List, [], ◌⊎◌, ◌≡◌, ℕ, ◌+◌, ◌*◌, ◌/◌, ◌%◌, ◌-◌, ◌≤◌, ◌<◌, Ok, length, get_or}
 use Rattle.registers.specs.declared.Registers.{Registers}
 use Rattle.registers.specs.State.{State, places}
 use Rattle.text.specs.Decimal.{decimal}
 use Rattle.text.specs.Text.{split}
-use Rattle.glass.specs.declared.answer.Cell.TheVariants as cell
 use Rattle.glass.specs.Glass.{cell_of, shown_of, glass_of}
 use Rattle.glass.specs.Pixel.{bit_of}
 use Rattle.glass.specs.When.{Told}
@@ -58,11 +57,11 @@ pub record Answers (text : List ℕ) (pins : ℕ) (es : List ℕ) (end : State) 
   pub row_asked : o.row ≡ row
   pub column_asked : o.column ≡ column
   -- the place is the one that the glass has for it, in both memories
-  pub is_place : cell_of end.chip row column ≡ cell.At o.place
+  pub is_place : cell_of end.chip row column ≡ Ok o.place
   pub within : o.place < places
   pub stands : Stands end.chip.registers row column o
   -- what the glass shows, which follows from the byte that is told, its RAM row and the registers alone
-  pub shows : o.shows ≡ glass_of end.chip end.memory row column
+  pub shows : glass_of end.chip end.memory row column ≡ Ok o.shows
   pub by_byte : o.shows ≡ shown_of end.chip.registers o.ram o.byte
   pub told : Told o.shows
   -- the pixel's two bits, the higher one worth 2: with k the row in the bank, bits 2k + 1 and 2k of the byte

@@ -1,9 +1,7 @@
 -- The calls: which refusal comes first, and what is printed of a capture.
-use Rattle.std.specs.Prelude.{List, [], ℕ, length}
+use Rattle.std.specs.Prelude.{List, [], ℕ, Result, Ok, Err, length}
 use Rattle.registers.specs.declared.Chip.{Chip}
 use Rattle.registers.specs.Refusals.{lengths_refusal}
-use Rattle.glass.specs.declared.answer.Cell.{Cell}
-use Rattle.glass.specs.declared.answer.Cell.TheVariants as cell
 use Rattle.glass.specs.Glass.{cell_of}
 use Rattle.print.specs.declared.Written.{Written}
 use Rattle.print.specs.declared.Written.TheVariants.{Refused}
@@ -15,9 +13,9 @@ use Rattle.listing.specs.ReplayText.{refused_text, text_unless}
 use Rattle.origin.specs.Origin.{origin_at, origin_text}
 
 -- the answer, and the buffer: the pixel's place is found, or refused by 2 or 5
-abbrev pub told_at : Chip → List ℕ → List ℕ → ℕ → ℕ → Cell → List ℕ → Output
-told_at c m w row column (cell.Refused k) out = output (Refused k) out
-told_at c m w row column (cell.At p) out = whole_text 0 (origin_text (origin_at c m w row column p)) out
+abbrev pub told_at : Chip → List ℕ → List ℕ → ℕ → ℕ → Result ℕ ℕ → List ℕ → Output
+told_at c m w row column (Err k) out = output (Refused k) out
+told_at c m w row column (Ok p) out = whole_text 0 (origin_text (origin_at c m w row column p)) out
 
 -- 1: a lent memory isn't 1,717 long; then 2: register record not allowed; 5: glass row above 66 or column above 100
 unfoldable pub origin_call : Chip → List ℕ → List ℕ → ℕ → ℕ → List ℕ → Output
@@ -34,6 +32,6 @@ told_of (refused_at n s) row column out = refused_text [] (refused_at n s) out
 told_of (replayed s) row column out = origin_call s.chip s.memory s.writers row column out
 
 -- 1 comes first, whatever the capture came to; 2 and 5 come only of a capture that was replayed
-unfoldable pub origin_text_call : End → List ℕ → List ℕ → ℕ → ℕ → List ℕ → Output
+unfoldable pub origin_text_call : Result End ℕ → List ℕ → List ℕ → ℕ → ℕ → List ℕ → Output
 origin_text_call end m w row column out =
     text_unless (lengths_refusal (length m) (length w)) out (told_of (meaning end m w) row column out)

@@ -3,7 +3,7 @@ use Rattle.std.specs.Prelude.{cond, List, [], ◌∷◌, ◌++◌, ℕ, ◌+◌,
 use Rattle.registers.specs.declared.Chip.{Chip}
 use Rattle.glass.specs.declared.answer.Shown.{Shown}
 use Rattle.glass.specs.declared.answer.Shown.TheVariants as shown
-use Rattle.glass.specs.Glass.{ram_row_of, glass_of}
+use Rattle.glass.specs.Glass.{ram_row_of, shown_of}
 use Rattle.glass.specs.Pixel.{value_in}
 use Rattle.text.specs.Text.{bytes}
 use Rattle.print.specs.Chosen.{lines_of, line}
@@ -18,7 +18,7 @@ origin_at c memory writers row column p =
     record {
       row = row;
       column = column;
-      shows = glass_of c memory row column;
+      shows = shown_of c.registers (ram_row_of c row) (get_or memory p 0);
       ram = ram_row_of c row;
       place = p;
       byte = get_or memory p 0;
@@ -32,12 +32,10 @@ origin_at c memory writers row column p =
 abbrev pub line_of : ℕ → ℕ
 line_of event = cond (eqb event 0) 0 (event + 1)
 
--- a pixel that is not refused shows one of the first three, so that the last is never seen
 abbrev pub shown_text : Shown → List ℕ
 shown_text (shown.Level g) = bytes "level " ++ decimal_of g
 shown_text shown.Dark = bytes "dark"
 shown_text shown.Undriven = bytes "undriven"
-shown_text (shown.Refused n) = []
 
 -- a line's two fields: a name and a number
 abbrev pub numbered : List ℕ → ℕ → List (List ℕ)

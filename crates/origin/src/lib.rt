@@ -2,21 +2,22 @@
 #![tactic(auto)]
 
 ghost use Rattle.std.specs.Prelude.{◌≡◌, ◌<◌, length};
+ghost use Rattle.refusals.specs.Numbers.{numbered};
 ghost use Rattle.glass.specs.When.{Told};
-ghost use Rattle.print.specs.Printed.{decimal_of, Wrote, output, whole_text};
+ghost use Rattle.print.specs.Printed.{decimal_of, output, whole_text};
+ghost use Rattle.print.specs.Prints.{Prints, written_of};
 ghost use Rattle.origin.specs.Origin.{line_of, origin_at, shown_text, pixel_lines, cell_lines, byte_lines, origin_text};
 ghost use Rattle.origin.specs.Call.{origin_call, origin_text_call};
 
 use capture::End;
-use glass::answer::{Cell, Shown};
-use print::Written;
+use glass::answer::Shown;
+use print::{Printout, Unprinted};
+use refusals::Refusal;
 use registers::Chip;
-
-const NEWLINE: u8 = 10;
 
 // A pixel of the glass, the place of the memories that it shows, and what stands there. Bank and column of the cell follow from the place, the line of
 // the capture from the event.
-#[derive(Clone, Copy)]
+#[derive(Clone, Copy, Debug, PartialEq, Eq, Hash)]
 pub struct Origin {
     pub row: usize,
     pub column: usize,
@@ -40,104 +41,94 @@ fn origin_at(
     requires { (place < length memory.now) × (place < length writers.now) }
     ensures { result ≡ origin_at chip memory.now writers.now row column place }
 {
-    let registers = chip.registers;
-    let shows = glass::glass(chip, memory, row, column);
-    let ram = glass::pixel::ram_row(registers.my, row);
+    let ram = glass::pixel::ram_row(chip.registers.my, row);
     let byte = memory[place];
-    let value = glass::pixel::value_in(byte, ram);
-    let event = writers[place];
     Origin {
         row,
         column,
-        shows,
+        shows: glass::pixel::shown(chip.registers, ram, byte),
         ram,
         place,
         byte,
-        value,
-        event,
+        value: glass::pixel::value_in(byte, ram),
+        event: writers[place],
     }
 }
 
 // What is shown, in words.
-fn shown_words(shows: Shown, out: &mut [u8], at: usize) -> usize
-    ensures { Wrote out.old at (shown_text shows) out.new result }
+fn shown_words(shows: Shown, out: &mut Printout)
+    ensures { Prints out.old (shown_text shows) out.new }
 {
     match shows {
+        Shown::Dark => out.bytes(b"dark"),
+        Shown::Undriven => out.bytes(b"undriven"),
         Shown::Level(level) => {
-            let word = print::bytes(b"level ", out, at);
-            print::decimal(level as u64, out, word)
+            out.bytes(b"level ");
+            out.decimal(u64::from(level));
         }
-        Shown::Dark => print::bytes(b"dark", out, at),
-        Shown::Undriven => print::bytes(b"undriven", out, at),
-        Shown::Refused(_) => print::bytes(b"", out, at),
     }
 }
 
 // The line of the capture in which an event stands: the pins have the first. It may be past the largest u64.
-fn line_number(event: u64, out: &mut [u8], at: usize) -> usize
-    ensures { Wrote out.old at (decimal_of (line_of event)) out.new result }
+fn line_number(event: u64, out: &mut Printout)
+    ensures { Prints out.old (decimal_of (line_of event)) out.new }
 {
     if event == 0 {
-        return print::decimal(0, out, at);
+        out.decimal(0);
+    } else {
+        out.decimal_plus(event, 1);
     }
-    print::decimal_plus(event, 1, out, at)
 }
 
 // The pixel: its row and column, and what it shows.
-fn pixel_lines(origin: Origin, out: &mut [u8], at: usize) -> usize
-    ensures { Wrote out.old at (pixel_lines origin) out.new result }
+fn pixel_lines(origin: Origin, out: &mut Printout)
+    ensures { Prints out.old (pixel_lines origin) out.new }
 {
-    let shows = origin.shows;
-    let row = print::named_line(b"row", origin.row as u64, out, at);
-    let column = print::named_line(b"column", origin.column as u64, out, row);
-    let name = print::bytes(b"shows\t", out, column);
-    let words = shown_words(shows, out, name);
-    print::byte(NEWLINE, out, words)
+    out.named_line(b"row", origin.row as u64);
+    out.named_line(b"column", origin.column as u64);
+    out.bytes(b"shows\t");
+    shown_words(origin.shows, out);
+    out.byte(b'\n');
 }
 
 // The cell: its RAM row, bank, column and place.
-fn cell_lines(origin: Origin, out: &mut [u8], at: usize) -> usize
-    ensures { Wrote out.old at (cell_lines origin) out.new result }
+fn cell_lines(origin: Origin, out: &mut Printout)
+    ensures { Prints out.old (cell_lines origin) out.new }
 {
     let place = origin.place as u64;
-    let ram = print::named_line(b"ram row", origin.ram as u64, out, at);
-    let bank = print::named_line(b"bank", place / 101, out, ram);
-    let column = print::named_line(b"cell column", place % 101, out, bank);
-    print::named_line(b"place", place, out, column)
+    out.named_line(b"ram row", origin.ram as u64);
+    out.named_line(b"bank", place / 101);
+    out.named_line(b"cell column", place % 101);
+    out.named_line(b"place", place);
 }
 
 // What stands there: the byte, the pixel's two bits of it, and the event that wrote it, with its line.
-fn byte_lines(origin: Origin, out: &mut [u8], at: usize) -> usize
-    ensures { Wrote out.old at (byte_lines origin) out.new result }
+fn byte_lines(origin: Origin, out: &mut Printout)
+    ensures { Prints out.old (byte_lines origin) out.new }
 {
-    let byte = print::named_line(b"byte", origin.byte as u64, out, at);
-    let value = print::named_line(b"value", origin.value as u64, out, byte);
-    let event = print::named_line(b"event", origin.event, out, value);
-    let name = print::bytes(b"line\t", out, event);
-    let number = line_number(origin.event, out, name);
-    print::byte(NEWLINE, out, number)
+    out.named_line(b"byte", u64::from(origin.byte));
+    out.named_line(b"value", u64::from(origin.value));
+    out.named_line(b"event", origin.event);
+    out.bytes(b"line\t");
+    line_number(origin.event, out);
+    out.byte(b'\n');
 }
 
 // All eleven lines.
-fn lines(origin: Origin, out: &mut [u8]) -> usize
-    ensures { Wrote out.old 0 (origin_text origin) out.new result }
+fn lines(origin: Origin, out: &mut Printout)
+    ensures { Prints out.old (origin_text origin) out.new }
 {
-    let pixel = pixel_lines(origin, out, 0);
-    let cell = cell_lines(origin, out, pixel);
-    byte_lines(origin, out, cell)
+    pixel_lines(origin, out);
+    cell_lines(origin, out);
+    byte_lines(origin, out);
 }
 
 // The lines from the start of `out` on.
-fn told(origin: Origin, out: &mut [u8]) -> Written
+fn told(origin: Origin, out: &mut [u8]) -> Result<usize, Unprinted>
     requires { Told origin.shows }
-    ensures { output result out.new ≡ whole_text 0 (origin_text origin) out.old }
+    ensures { output (written_of result) out.new ≡ whole_text 0 (origin_text origin) out.old }
 {
-    let mut none = [0u8; 0];
-    let needed = lines(origin, &mut none);
-    if out.len() < needed {
-        return Written::Short(needed);
-    }
-    Written::Text(lines(origin, out))
+    print::whole(|printout| lines(origin, printout), out)
 }
 
 // What this chip and these memories tell of a row and column of the glass, from the start of `out` on. 1: a memory of another length; 2: a record that
@@ -149,45 +140,34 @@ pub fn of_pixel(
     row: usize,
     column: usize,
     out: &mut [u8],
-) -> Written
-    ensures { output result out.new
+) -> Result<usize, Unprinted>
+    ensures { output (written_of result) out.new
         ≡ origin_call chip memory.now writers.now row column out.old }
 {
-    let wrong = registers::refusal::of_lengths(memory.len(), writers.len());
-    if wrong != 0 {
-        return Written::Refused(wrong);
-    }
-    let cell = glass::place(chip, row, column);
-    match cell {
-        Cell::Refused(number) => Written::Refused(number),
-        Cell::At(place) => {
-            told(
-                origin_at(chip, memory, writers, row, column, place as usize),
-                out,
-            )
-        }
-    }
+    registers::refusal::lengths(memory.len(), writers.len())?;
+    let place = glass::place(chip, row, column)?;
+    told(
+        origin_at(chip, memory, writers, row, column, usize::from(place)),
+        out,
+    )
 }
 
 // What is printed of a capture that came to `end` and left these memories: what a row and column of the glass tell, or the line where the capture is
 // bad, from the start of `out` on.
 pub fn origin_text(
-    end: End,
+    end: Result<End, Refusal>,
     memory: &[u8],
     writers: &[u64],
     row: usize,
     column: usize,
     out: &mut [u8],
-) -> Written
-    ensures { output result out.new
-        ≡ origin_text_call end memory.now writers.now row column out.old }
+) -> Result<usize, Unprinted>
+    ensures { output (written_of result) out.new
+        ≡ origin_text_call (numbered end) memory.now writers.now row column out.old }
 {
-    let wrong = registers::refusal::of_lengths(memory.len(), writers.len());
-    if wrong != 0 {
-        return Written::Refused(wrong);
+    registers::refusal::lengths(memory.len(), writers.len())?;
+    match end? {
+        End::Whole(chip, _) => of_pixel(chip, memory, writers, row, column, out),
+        _ => listing::refused(b"", end, out),
     }
-    let End::Whole(chip, _) = end else {
-        return listing::refused(b"", end, out);
-    };
-    of_pixel(chip, memory, writers, row, column, out)
 }

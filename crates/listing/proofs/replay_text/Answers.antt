@@ -1,7 +1,7 @@
 use mathlib.Core.Path.{◌∙◌}
 use Rattle.refusals.specs.Numbers.{numbered}
 use Rattle.listing.specs.ReplayText.{replay_text_call}
-use Rattle.listing.proofs.CodeWays.{ended, not-whole, refused_end, unless-refused, unless-passed, text-refused, text-whole}
+use Rattle.listing.proofs.CodeWays.{ended, not-whole, refused_end, unless-refused, unless-passed, refused-by-number, err-not-whole, text-whole}
 use Rattle.listing.proofs.replay_text.Goals as goal
 
 pub returns-in_err-lengths : goal.returns-in_err-lengths
@@ -10,7 +10,11 @@ returns-in_err-lengths c = unless-refused _ _ _ _ c.from_residual.ensures.1 c.in
 
 pub returns-in_err-end : goal.returns-in_err-end
 unfolding replay_text_call
-returns-in_err-end c = unless-passed _ c.in_ok-lengths.ensures (text-refused _ _ _ _ _ _ c.from_residual-in_err-end.ensures.1 c.in_err-end.was)
+returns-in_err-end c =
+    let args = c.args in
+    unless-passed _ c.in_ok-lengths.ensures
+    (refused-by-number _ _ _ _ _ c.from_residual-in_err-end.ensures.1 c.in_err-end.was
+    ∙ refused_end (numbered args.end) args.memory.now args.writers.now args.out.now (err-not-whole c.in_err-end.was))
 
 pub returns-in_default : goal.returns-in_default
 unfolding replay_text_call

@@ -1,8 +1,9 @@
-use native.Mathlib.Omega.{arith}
-use Rattle.origin.proofs.CodeWays.{cell-wrote}
+use mathlib.Core.Path.{sym}
+use mathlib.Core.List.{append-nil}
+use Rattle.print.proofs.Writing.{prints_then, prints-same}
 use Rattle.origin.proofs.cell_lines.Goals as goal
 
 pub returns : goal.returns
 returns c =
-    cell-wrote c.args.origin (omega (arith, c.well_formed.1.0)) c.named_line-ram.ensures c.named_line-bank.ensures
-    c.named_line-column.ensures c.named_line.ensures
+    prints_then c.named_line.ensures
+    (prints_then c.named_line-2.ensures (prints_then c.named_line-3.ensures (prints-same (sym (append-nil _)) c.named_line-4.ensures)))

@@ -1,8 +1,11 @@
-use native.Mathlib.Omega.{arith}
-use Rattle.origin.proofs.CodeWays.{pixel-wrote}
+use Rattle.text.specs.Text.{bytes}
+use Rattle.print.proofs.Writing.{prints_then, prints-same}
+use Rattle.origin.specs.Origin.{shown_text}
+use Rattle.origin.proofs.CodeWays.{last-line}
 use Rattle.origin.proofs.pixel_lines.Goals as goal
 
 pub returns : goal.returns
 returns c =
-    pixel-wrote c.args.origin (omega (arith, c.well_formed.1.0)) c.named_line-row.ensures c.named_line-column.ensures c.bytes-name.ensures
-    c.shown_words-words.ensures c.byte.ensures
+    prints_then c.named_line.ensures
+    (prints_then c.named_line-2.ensures
+    (prints-same (last-line (bytes "shows") (shown_text c.args.origin.shows)) (prints_then c.bytes.ensures (prints_then c.shown_words.ensures c.byte.ensures))))
