@@ -7,14 +7,29 @@ use native.Mathlib.Omega.{arith}
 use borrow.Author.Tests.{eq-eqb}
 use lib.Dec.{eqb}
 use lib.ListN.{length, get_or, drop, drop_of_length-le, length-drop}
-use Rattle.registers.specs.declared.Chip.{Chip}
 use Rattle.registers.specs.State.{State}
 use Rattle.text.proofs.Finding.{drop-next}
 use Rattle.print.specs.Chosen.{lines_of}
-use Rattle.print.specs.Printed.{top, Wrote}
-use Rattle.print.proofs.Writing.{wrote_then, wrote-same, wrote_none}
-use Rattle.chip.specs.Promised.{Answer, After, refusal_of, step_of}
-use Rattle.chip.proofs.Laws.{refused, count_law}
+use Rattle.print.specs.declared.Printout.{Printout}
+use Rattle.print.specs.Printed.{top}
+use Rattle.print.specs.Prints.{Prints}
+use Rattle.print.proofs.Writing.{prints_then, prints-same, prints_none}
+use Rattle.refusals.specs.declared.Refusal.{Refusal}
+use Rattle.refusals.specs.Numbers.{number}
+use Rattle.refusals.proofs.Positive.{positive}
+use Rattle.registers.specs.declared.Phase.{Phase}
+use Rattle.registers.specs.declared.Phase.TheVariants.{Idle, AddressAwaited, Ignoring, ControlAwaited, OneByte, EndlessBytes, Reading, ReadEnded}
+use Rattle.phases.specs.Phases.{is_addressed}
+use Rattle.engine.specs.declared.answer.Answer.{Answer as Given}
+use Rattle.engine.specs.declared.answer.Answer.TheVariants as code
+use Rattle.engine.specs.declared.event.Event.{Event}
+use Rattle.engine.specs.declared.event.Event.TheVariants.{Byte, Start, Stop, ReadAcknowledged, ReadNotAcknowledged, Reset, Sensor, Unlisted}
+use Rattle.engine.specs.Answer.{Refused, Acknowledged, NotAcknowledged, given}
+use Rattle.engine.specs.Event.{event_of}
+use Rattle.engine.specs.Step.{step_of, acknowledge, content_of, on_byte, applied, counted, accepted, unless_refused}
+use Rattle.engine.proofs.Numbers.{NoRefusal}
+use Rattle.chip.specs.Promised.{After, refusal_of}
+use Rattle.chip.proofs.Laws.{refused}
 use Rattle.chip.proofs.RunOn.{run-one}
 use Rattle.capture_lines.specs.declared.LineSoFar.{LineSoFar}
 use Rattle.capture_lines.specs.declared.LineSoFar.TheVariants.{First, Pins, Empty, Number, BadFirst, Bad}
@@ -27,17 +42,54 @@ use Rattle.capture_trace.specs.declared.tally.Tally.{Tally}
 use Rattle.capture_trace.specs.Done.{DoneEvent, done_event, done_unless, done_events, done_at_end, done_in_bytes}
 use Rattle.capture_trace.specs.Follow.{line_for, told_line, told_lines, tallied, tallied_over}
 
--- ---- a value that the code knows by its variant, or by a test
+-- ---- an accepted event's answer is no refusal
 
-pub tallied-known : (known : Answer) {a : Answer} (t : Tally) {r : Tally} → a ≡ known → r ≡ tallied known t → r ≡ tallied a t
-tallied-known known t e h = h ∙ ap (λ (x : Answer). tallied x t) (sym e)
+module _ (p : Bool) (b : ℕ) (s : State) where
+  acknowledged : NoRefusal (acknowledge p)
+  unfolding acknowledge
+  acknowledged = go p
+    where
+      go : (t : Bool) → NoRefusal (cond t Acknowledged NotAcknowledged)
+      go true = tt
+      go false = tt
 
-pub told-known :
-    (known : Bool) {t : Bool} (e : ℕ) (c : Chip) (n : ℕ) (a : Answer) {l m : List ℕ} {i j : ℕ} → t ≡ known → Wrote l i (told_line known e c n a) m j
-    → Wrote l i (told_line t e c n a) m j
-told-known known e c n a h w = wrote-same (ap (λ (b : Bool). told_line b e c n a) (sym h)) w
+answers-content : (rs : Bool) (p : Phase) (b : ℕ) (s : State) → NoRefusal (content_of rs p b s).answer
+answers-content true p b s = tt
+answers-content false p b s = tt
 
--- ---- one event: a is what the step gave. A refused event leaves the count as it was
+answers-byte : (p : Phase) (b : ℕ) (s : State) → NoRefusal (on_byte p b s).answer
+answers-byte Idle b s = tt
+answers-byte AddressAwaited b s = acknowledged (is_addressed s.chip.pins b) b s
+answers-byte Ignoring b s = tt
+answers-byte ControlAwaited b s = tt
+answers-byte (OneByte rs) b s = answers-content rs ControlAwaited b s
+answers-byte (EndlessBytes rs) b s = answers-content rs (EndlessBytes rs) b s
+answers-byte Reading b s = tt
+answers-byte ReadEnded b s = tt
+
+answers : (v : Event) (s : State) → NoRefusal (applied v s).answer
+unfolding applied
+answers (Byte b) s = answers-byte s.chip.phase b s
+answers Start s = tt
+answers Stop s = tt
+answers ReadAcknowledged s = tt
+answers ReadNotAcknowledged s = tt
+answers Reset s = tt
+answers (Sensor value) s = tt
+answers Unlisted s = tt
+
+answers-accepted : (e : ℕ) (s : State) → NoRefusal (accepted e s).answer
+unfolding accepted
+answers-accepted e s = answers (event_of e) (counted s)
+
+given-none : (g : Given) → NoRefusal (given g)
+given-none code.Nothing = tt
+given-none code.Acknowledged = tt
+given-none code.NotAcknowledged = tt
+given-none (code.Command a) = tt
+given-none (code.Read b) = tt
+
+-- ---- one event: a is what the step gave
 
 module _ (e : ℕ) (s : State) where
   pub ended-number : (k : ℕ) → refusal_of e s ≡ k → playing (line_after k) (step_of e s).state ≡ ended_line (Number e) s
@@ -50,40 +102,39 @@ module _ (e : ℕ) (s : State) where
   done-number k h = rw h
 
   module _ (a : After) (is : a ≡ step_of e s) where
-    pub not-counted :
-        a.state.count ≡ s.count → (playing Bad a.state ≡ ended_line (Number e) s) × (done_at_end (Number e) s ≡ [])
-    not-counted same = go (refusal_of e s) refl
+    pub when-refused : (r : ℕ) → a.answer ≡ Refused r → (playing Bad a.state ≡ ended_line (Number e) s) × (done_at_end (Number e) s ≡ [])
+    unfolding step_of
+    when-refused r told = go (refusal_of e s) refl
       where
         go : (k : ℕ) → refusal_of e s ≡ k → (playing Bad a.state ≡ ended_line (Number e) s) × (done_at_end (Number e) s ≡ [])
-        go zero h = absurd (omega (arith, count_law e s h, ap (λ (x : After). x.state.count) is, same))
+        go zero h =
+            absurd
+            (subst NoRefusal
+            (ap (λ (x : After). x.answer) (ap (λ (k : ℕ). unless_refused k (accepted e s) s) (sym h) ∙ sym is) ∙ told)
+            (answers-accepted e s))
         go (suc k) h = (ap (λ (x : After). playing Bad x.state) is ∙ ended-number (suc k) h, done-number (suc k) h)
 
-    pub is-counted :
-        (a.state.count ≡ s.count → ⊥)
+    pub when-accepted :
+        (g : Given) → a.answer ≡ given g
         → (playing Empty a.state ≡ ended_line (Number e) s) × (done_at_end (Number e) s ≡ done_event e s ∷ [])
-    is-counted other = go (refusal_of e s) refl
+    when-accepted g told = go (refusal_of e s) refl
       where
         go :
             (k : ℕ) → refusal_of e s ≡ k
             → (playing Empty a.state ≡ ended_line (Number e) s) × (done_at_end (Number e) s ≡ done_event e s ∷ [])
         go zero h = (ap (λ (x : After). playing Empty x.state) is ∙ ended-number 0 h, done-number 0 h)
-        go (suc k) h = absurd (other (ap (λ (x : After). x.state.count) (is ∙ refused e s k h)))
+        go (suc k) h = absurd (subst NoRefusal (sym told ∙ ap (λ (x : After). x.answer) (is ∙ refused e s k h)) (given-none g))
 
 -- none done: nothing is tallied, and nothing told
 pub none-tallied : {ds : List DoneEvent} (t : Tally) → ds ≡ [] → t ≡ tallied_over ds t
 none-tallied t e = rw e
 
-pub none_told : {ds : List DoneEvent} (told : Bool) (l : List ℕ) (i : ℕ) → i ≤ top → ds ≡ [] → Wrote l i (told_lines told ds) l i
-none_told told l i h e = wrote-same (ap (told_lines told) (sym e)) (go told)
+pub none_told : {ds : List DoneEvent} (told : Bool) (p : Printout) → length p.out.now ≤ top → ds ≡ [] → Prints p (told_lines told ds) p
+none_told told p h e = prints-same (ap (told_lines told) (sym e)) (go told)
   where
-    go : (b : Bool) → Wrote l i (told_lines b []) l i
-    go true = wrote_none l i h
-    go false = wrote_none l i h
-
--- j is where the code stands then
-pub passed-told :
-    {ds : List DoneEvent} (told : Bool) (l : List ℕ) (i : ℕ) {j : ℕ} → i ≤ top → ds ≡ [] → j ≡ i → Wrote l i (told_lines told ds) l j
-passed-told {ds} told l i h e same = subst (λ (k : ℕ). Wrote l i (told_lines told ds) l k) (sym same) (none_told told l i h e)
+    go : (b : Bool) → Prints p (told_lines b []) p
+    go true = prints_none p h
+    go false = prints_none p h
 
 -- one done
 module _ (e : ℕ) (s : State) (a : After) (is : a ≡ step_of e s) {ds : List DoneEvent} (one : ds ≡ done_event e s ∷ []) where
@@ -91,9 +142,9 @@ module _ (e : ℕ) (s : State) (a : After) (is : a ≡ step_of e s) {ds : List D
   one-tallied t r h = h ∙ ap (λ (x : After). tallied x.answer t) is ∙ ap (λ (xs : List DoneEvent). tallied_over xs t) (sym one)
 
   pub one_told :
-      (told : Bool) {l m : List ℕ} {i j : ℕ} → Wrote l i (told_line told e s.chip s.count a.answer) m j → Wrote l i (told_lines told ds) m j
+      (told : Bool) {p q : Printout} → Prints p (told_line told e s.chip s.count a.answer) q → Prints p (told_lines told ds) q
   one_told told w =
-      wrote-same (go told ∙ ap (told_lines told) (sym one)) w
+      prints-same (go told ∙ ap (told_lines told) (sym one)) w
     where
       go : (b : Bool) → told_line b e s.chip s.count a.answer ≡ told_lines b (done_event e s ∷ [])
       go true = ap (λ (x : After). event_line e s.chip s.count x.answer) is ∙ sym (append-nil (line_for (done_event e s)))
@@ -102,9 +153,9 @@ module _ (e : ℕ) (s : State) (a : After) (is : a ≡ step_of e s) {ds : List D
 -- ---- a newline behind a line of a known kind
 
 pub end_known :
-    (known : LineSoFar) {line : LineSoFar} (s : State) (told : Bool) (t : Tally) {p : Playing} {r : Tally} {l m : List ℕ} {i j : ℕ} → line ≡ known
-    → (p ≡ ended_line known s) × ((r ≡ tallied_over (done_at_end known s) t) × Wrote l i (told_lines told (done_at_end known s)) m j)
-    → (p ≡ ended_line line s) × ((r ≡ tallied_over (done_at_end line s) t) × Wrote l i (told_lines told (done_at_end line s)) m j)
+    (known : LineSoFar) {line : LineSoFar} (s : State) (told : Bool) (t : Tally) {p : Playing} {r : Tally} {o q : Printout} → line ≡ known
+    → (p ≡ ended_line known s) × ((r ≡ tallied_over (done_at_end known s) t) × Prints o (told_lines told (done_at_end known s)) q)
+    → (p ≡ ended_line line s) × ((r ≡ tallied_over (done_at_end line s) t) × Prints o (told_lines told (done_at_end line s)) q)
 end_known known s told t e h = rw e h
 
 -- ---- a line that is no event's
@@ -172,7 +223,7 @@ none-scanned part at l s r e h = rw e (scans (drop at part) part at l s refl h)
 -- the newline there: one line of the part, then the others
 module _ (part : List ℕ) (at : ℕ) (line : LineSoFar) (s : State) {p : Playing} (h : at < length part) (n : get_or part at 0 ≡ newline) (e : p ≡ ended_line line s)
   where
-    done-at-newline : done_in_bytes (drop at part) (playing line s) ≡ done_at_end line s ++ done_in_bytes (drop (at + 1) part) p
+    pub done-at-newline : done_in_bytes (drop at part) (playing line s) ≡ done_at_end line s ++ done_in_bytes (drop (at + 1) part) p
     unfolding done_in_bytes
     done-at-newline = rw (drop-next part at h, eq-eqb (get_or part at 0) newline n, e)
 
@@ -184,23 +235,37 @@ module _ (part : List ℕ) (at : ℕ) (line : LineSoFar) (s : State) {p : Playin
         ∙ sym (tallied-append (done_at_end line s) (done_in_bytes (drop (at + 1) part) p) t)
         ∙ ap (λ (ds : List DoneEvent). tallied_over ds t) (sym done-at-newline)
 
-    pub turn-told :
-        (told : Bool) {l m r : List ℕ} {i j k : ℕ} → length l ≤ top → Wrote l i (told_lines told (done_at_end line s)) m j
-        → Wrote m j (told_lines told (done_in_bytes (drop (at + 1) part) p)) r k → Wrote l i (told_lines told (done_in_bytes (drop at part) (playing line s))) r k
-    turn-told told hl a b =
-        wrote-same
-        (sym (told-append told (done_at_end line s) (done_in_bytes (drop (at + 1) part) p)) ∙ ap (told_lines told) (sym done-at-newline)) (wrote_then hl a b)
+-- ---- what was told so far, of all, where the rest is still to be done
 
--- ---- a whole part: x is what the code found, k what the definition says
+pub record ToldSoFar (told : Bool) (all rest : List DoneEvent) (o q : Printout) : Type 0 where
+  pub so-far : List DoneEvent
+  pub all-done : so-far ++ rest ≡ all
+  pub printed : Prints o (told_lines told so-far) q
 
-module _ (x k : ℕ) (e : x ≡ k) (ds : List DoneEvent) where
-  -- none is done where it was refused
-  pub refused_none : (x ≡ 0 → ⊥) → done_unless k ds ≡ []
-  refused_none n = go k (λ z. n (e ∙ z))
-    where
-      go : (j : ℕ) → (j ≡ 0 → ⊥) → done_unless j ds ≡ []
-      go zero n = absurd (n refl)
-      go (suc j) n = refl
+pub told-begun : (told : Bool) (all : List DoneEvent) (o : Printout) → length o.out.now ≤ top → ToldSoFar told all all o o
+told-begun told all o h = record { so-far = []; all-done = refl; printed = none_told told o h refl }
 
-  pub passed-all : x ≡ 0 → done_unless k ds ≡ ds
-  passed-all z = let none : k ≡ 0 = sym e ∙ z in rw none
+pub told-passed :
+    {told : Bool} {all rest rest' : List DoneEvent} {o q : Printout} → rest ≡ rest' → ToldSoFar told all rest o q → ToldSoFar told all rest' o q
+told-passed e t = rw (← e) t
+
+pub told-next :
+    {told : Bool} {all rest : List DoneEvent} {o q r : Printout} (ds : List DoneEvent) → ToldSoFar told all (ds ++ rest) o q → Prints q (told_lines told ds) r
+    → ToldSoFar told all rest o r
+told-next {told} {rest = rest} ds t w =
+    record {
+      so-far = t.so-far ++ ds;
+      all-done = append_assoc t.so-far ds rest ∙ t.all-done;
+      printed = prints-same (sym (told-append told t.so-far ds)) (prints_then t.printed w);
+    }
+
+pub told-ended : {told : Bool} {all rest : List DoneEvent} {o q : Printout} → rest ≡ [] → ToldSoFar told all rest o q → Prints o (told_lines told all) q
+told-ended {told} e t =
+    prints-same (ap (told_lines told) (sym (append-nil t.so-far) ∙ ap (λ (ds : List DoneEvent). t.so-far ++ ds) (sym e) ∙ t.all-done)) t.printed
+
+-- ---- a whole part: r is what the code found, k what the definition says
+
+-- none is done where it was refused
+pub refused_none : (r : Refusal) (k : ℕ) (ds : List DoneEvent) → number r ≡ k → done_unless k ds ≡ []
+refused_none r zero ds e = absurd (omega (arith, positive r, e))
+refused_none r (suc k) ds e = refl

@@ -1,3 +1,4 @@
 pub mod Done
 pub mod Follow
 pub mod Told
+pub mod Courses

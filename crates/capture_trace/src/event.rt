@@ -2,127 +2,96 @@
 // tested at an event.
 ghost use Rattle.std.specs.Prelude.{◌≡◌};
 ghost use Rattle.registers.specs.State.{state};
-ghost use Rattle.print.specs.Printed.{Wrote};
+ghost use Rattle.print.specs.Prints.{Prints};
+ghost use Rattle.engine.specs.Answer.{told as told_answer};
 ghost use Rattle.chip.specs.Promised.{Fit};
 ghost use Rattle.capture_lines.specs.declared.LineSoFar.TheVariants.{Number};
-ghost use Rattle.capture.specs.Feeding.{playing, ended_line, ended_past_entry};
+ghost use Rattle.capture.specs.Feeding.{kept, ended_line, ended_past_entry};
 ghost use Rattle.capture_trace.specs.Done.{done_at_end};
 ghost use Rattle.capture_trace.specs.Follow.{told_line, told_lines, tallied_over};
 
-use crate::tally::Tally;
+use crate::Course;
+use capture::Capture;
 use capture_lines::LineSoFar;
 use engine::answer::Answer;
-use registers::Chip;
-
-// Where a capture stands, with what was made of it so far.
-#[derive(Clone, Copy)]
-pub struct Course {
-    pub chip: Chip,
-    pub count: u64,
-    pub line: LineSoFar,
-    pub tally: Tally,
-    pub length: usize,
-}
+use print::Printout;
+use refusals::Refusal;
 
 fn tell(
     told: bool,
     event: u16,
-    chip: Chip,
-    count: u64,
-    answer: Answer,
-    out: &mut [u8],
-    at: usize,
-) -> usize
-    ensures { Wrote out.old at (told_line told event chip count answer) out.new result }
+    before: Capture,
+    answer: Result<Answer, Refusal>,
+    out: &mut Printout,
+)
+    ensures { Prints out.old (told_line told event before.chip before.count (told_answer answer)) out.new }
 {
     if told {
-        return event_words::line(event, chip, count, answer, out, at);
+        event_words::line(event, before.chip, before.count, answer, out);
     }
-    at
 }
 
-// One event. A refused one is not counted, and so the count tells.
+// One event. A refused one is not told.
 fn play(
     event: u16,
     course: Course,
     told: bool,
     memory: &mut [u8],
     writers: &mut [u64],
-    out: &mut [u8],
+    out: &mut Printout,
 ) -> Course
-    requires { Fit (state course.chip memory.old writers.old course.count) }
-    ensures count_after { playing result.line (state result.chip memory.new writers.new result.count)
-        ≡ ended_line (Number event) (state course.chip memory.old writers.old course.count) }
+    requires { Fit (state course.capture.chip memory.old writers.old course.capture.count) }
+    ensures count_after { kept result.capture memory.new writers.new
+        ≡ ended_line (Number event) (state course.capture.chip memory.old writers.old course.capture.count) }
     ensures tally_value { result.tally
-        ≡ tallied_over (done_at_end (Number event) (state course.chip memory.old writers.old course.count)) course.tally }
-    ensures wrote { Wrote out.old course.length
-        (told_lines told (done_at_end (Number event) (state course.chip memory.old writers.old course.count))) out.new result.length }
+        ≡ tallied_over (done_at_end (Number event) (state course.capture.chip memory.old writers.old course.capture.count)) course.tally }
+    ensures prints { Prints out.old
+        (told_lines told (done_at_end (Number event) (state course.capture.chip memory.old writers.old course.capture.count))) out.new }
 {
-    let before = course.chip;
-    let tally = course.tally;
-    let count = course.count;
-    let stepped = engine::past_entry::step(event, before, count, memory, writers);
-    let answer = stepped.answer;
-    let after = stepped.chip;
-    if stepped.count == count {
+    let before = course.capture;
+    let stepped = engine::past_entry::step(event, before.chip, before.count, memory, writers);
+    let Ok(answer) = stepped.answer else {
         return Course {
-            chip: after,
-            count: stepped.count,
-            line: LineSoFar::Bad,
-            tally,
-            length: course.length,
+            capture: Capture {
+                chip: stepped.chip,
+                count: stepped.count,
+                line: LineSoFar::Bad,
+            },
+            tally: course.tally,
         };
-    }
-    let length = tell(told, event, before, count, answer, out, course.length);
+    };
+    tell(told, event, before, stepped.answer, out);
     Course {
-        chip: after,
-        count: stepped.count,
-        line: LineSoFar::Empty,
-        tally: tally.with(answer),
-        length,
+        capture: Capture {
+            chip: stepped.chip,
+            count: stepped.count,
+            line: LineSoFar::Empty,
+        },
+        tally: course.tally.with(answer),
     }
 }
 
-// A line that is no event's, as `capture` ends it.
-fn pass(course: Course, memory: &mut [u8], writers: &mut [u64]) -> Course
-    ensures count_after { playing result.line (state result.chip memory.new writers.new result.count)
-        ≡ ended_past_entry course.line (state course.chip memory.old writers.old course.count) }
-    ensures tally_value { result.tally ≡ course.tally }
-    ensures length_value { result.length ≡ course.length }
-{
-    let chip = course.chip;
-    let line = course.line;
-    let tally = course.tally;
-    let ended = capture::play::end_line(chip, course.count, line, memory, writers);
-    let after = ended.chip;
-    let next = ended.line;
-    Course {
-        chip: after,
-        count: ended.count,
-        line: next,
-        tally,
-        length: course.length,
-    }
-}
-
+// A line that is no event's is ended as `capture` ends it.
 pub fn end_line(
     course: Course,
     told: bool,
     memory: &mut [u8],
     writers: &mut [u64],
-    out: &mut [u8],
+    out: &mut Printout,
 ) -> Course
-    requires { Fit (state course.chip memory.old writers.old course.count) }
-    ensures count_after { playing result.line (state result.chip memory.new writers.new result.count)
-        ≡ ended_line course.line (state course.chip memory.old writers.old course.count) }
+    requires { Fit (state course.capture.chip memory.old writers.old course.capture.count) }
+    ensures count_after { kept result.capture memory.new writers.new
+        ≡ ended_line course.capture.line (state course.capture.chip memory.old writers.old course.capture.count) }
     ensures tally_value { result.tally
-        ≡ tallied_over (done_at_end course.line (state course.chip memory.old writers.old course.count)) course.tally }
-    ensures wrote { Wrote out.old course.length
-        (told_lines told (done_at_end course.line (state course.chip memory.old writers.old course.count))) out.new result.length }
+        ≡ tallied_over (done_at_end course.capture.line (state course.capture.chip memory.old writers.old course.capture.count)) course.tally }
+    ensures prints { Prints out.old
+        (told_lines told (done_at_end course.capture.line (state course.capture.chip memory.old writers.old course.capture.count))) out.new }
 {
-    let line = course.line;
-    let LineSoFar::Number(event) = line else {
-        return pass(course, memory, writers);
-    };
-    play(event, course, told, memory, writers, out)
+    match course.capture.line {
+        LineSoFar::Number(event) => play(event, course, told, memory, writers, out),
+        _ => Course {
+            capture: capture::play::end_line(course.capture, memory, writers),
+            ..course
+        },
+    }
 }

@@ -1,10 +1,11 @@
 // How many bytes from the master were acknowledged, and how many not.
 ghost use Rattle.std.specs.Prelude.{◌≡◌};
-ghost use Rattle.capture_trace.specs.Follow.{none_tallied, one_more, with_acknowledge, without_acknowledge, tallied};
+ghost use Rattle.engine.specs.Answer.{given};
+ghost use Rattle.capture_trace.specs.Follow.{none_tallied, one_more, tallied};
 
 use engine::answer::Answer;
 
-#[derive(Clone, Copy)]
+#[derive(Clone, Copy, Debug, PartialEq, Eq, Hash)]
 pub struct Tally {
     pub acknowledged: u64,
     pub not_acknowledged: u64,
@@ -14,7 +15,7 @@ pub struct Tally {
 fn one_more(n: u64) -> u64
     ensures { result ≡ one_more n }
 {
-    if n < 18446744073709551615 { n + 1 } else { n }
+    n.saturating_add(1)
 }
 
 impl Tally {
@@ -27,35 +28,21 @@ impl Tally {
         }
     }
 
-    fn with_acknowledge(self) -> Self
-        ensures { result ≡ with_acknowledge self }
-    {
-        Self {
-            acknowledged: one_more(self.acknowledged),
-            not_acknowledged: self.not_acknowledged,
-        }
-    }
-
-    fn without_acknowledge(self) -> Self
-        ensures { result ≡ without_acknowledge self }
-    {
-        Self {
-            acknowledged: self.acknowledged,
-            not_acknowledged: one_more(self.not_acknowledged),
-        }
-    }
-
-    // With one answer more. A command is acknowledged whether it is taken or not.
+    // With the answer to one accepted event more. A command is acknowledged whether it is taken or not.
+    #[tactic(auto, unfolding(crate::specs::Follow::tallied))]
     pub fn with(self, answer: Answer) -> Self
-        ensures { result ≡ tallied answer self }
+        ensures { result ≡ tallied (given answer) self }
     {
         match answer {
-            Answer::Refused(_) => self,
-            Answer::Nothing => self,
-            Answer::Acknowledged => self.with_acknowledge(),
-            Answer::NotAcknowledged => self.without_acknowledge(),
-            Answer::Command(_) => self.with_acknowledge(),
-            Answer::Read(_) => self,
+            Answer::Acknowledged | Answer::Command(_) => Self {
+                acknowledged: one_more(self.acknowledged),
+                ..self
+            },
+            Answer::NotAcknowledged => Self {
+                not_acknowledged: one_more(self.not_acknowledged),
+                ..self
+            },
+            Answer::Nothing | Answer::Read(_) => self,
         }
     }
 }
