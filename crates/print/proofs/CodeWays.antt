@@ -10,7 +10,9 @@ use Rattle.text.proofs.Finding.{drop-next}
 use Rattle.print.specs.Chosen.{named_line}
 use Rattle.print.specs.Printed.{decimal_of, top, place_after, Wrote}
 use Rattle.print.proofs.Digits.{decimal-one, decimal-more}
-use Rattle.print.proofs.Writing.{after-fits, wrote_then, wrote-three, wrote-same, wrote_none}
+use Rattle.print.specs.declared.Printout.{Printout}
+use Rattle.print.specs.Prints.{Prints}
+use Rattle.print.proofs.Writing.{after-fits, wrote_then, wrote-three, wrote-same, wrote_none, prints_then, prints-same}
 
 -- ---- one byte
 
@@ -65,3 +67,30 @@ pub named-wrote :
     {l m n r : List ℕ} {i j k e : ℕ} (name : List ℕ) (value : ℕ) → length l ≤ top
     → Wrote l i name m j → Wrote m j (9 ∷ []) n k → Wrote n k (decimal_of value ++ (10 ∷ [])) r e → Wrote l i (named_line name value) r e
 named-wrote name value h a b c = wrote-same (named-fields name (decimal_of value)) (wrote-three h a b c)
+
+-- ---- the same, printed
+
+module _ (n : ℕ) where
+  pub prints-digit : {p q : Printout} → n < 10 → Prints p (digit n ∷ []) q → Prints p (decimal_of n) q
+  prints-digit h w = prints-same (sym (decimal-one n h)) w
+
+  pub prints-digits : {p q r : Printout} → 10 ≤ n → Prints p (decimal_of (n / 10)) q → Prints q (digit (n % 10) ∷ []) r → Prints p (decimal_of n) r
+  prints-digits h a b = prints-same (sym (decimal-more n h)) (prints_then a b)
+
+-- n + k, with k carried into the tens
+module _ (n k : ℕ) where
+  pub prints-sum-digit : {p q : Printout} → n / 10 + (n % 10 + k) / 10 ≡ 0 → Prints p (digit (n % 10 + k) ∷ []) q → Prints p (decimal_of (n + k)) q
+  prints-sum-digit z w = let same : n % 10 + k ≡ n + k = omega arith in prints-digit (n + k) (omega arith) (rw same at w)
+
+  pub prints-sum-digits :
+      {p q r : Printout} → (n / 10 + (n % 10 + k) / 10 ≡ 0 → ⊥)
+      → Prints p (decimal_of (n / 10 + (n % 10 + k) / 10)) q → Prints q (digit ((n % 10 + k) % 10) ∷ []) r → Prints p (decimal_of (n + k)) r
+  prints-sum-digits z a b =
+      let front : n / 10 + (n % 10 + k) / 10 ≡ (n + k) / 10 = omega arith in
+      let last : (n % 10 + k) % 10 ≡ (n + k) % 10 = omega arith in
+      prints-digits (n + k) (omega arith) (rw front at a) (rw last at b)
+
+pub prints-named :
+    {p q r t : Printout} (name : List ℕ) (value : ℕ)
+    → Prints p name q → Prints q (9 ∷ []) r → Prints r (decimal_of value ++ (10 ∷ [])) t → Prints p (named_line name value) t
+prints-named name value a b c = prints-same (named-fields name (decimal_of value)) (prints_then a (prints_then b c))

@@ -126,25 +126,35 @@ pub struct Printout<'a> {
 }
 
 impl<'a> Printout<'a> {
-    // One byte.
+    // One byte. The place stays once it is the largest number of all, which is no place of a buffer.
     pub fn byte(&mut self, b: u8)
         ensures { Prints self.old (b ∷ []) self.new }
     {
-        self.at = byte(b, self.out, self.at);
+        if self.at < self.out.len() {
+            self.out[self.at] = b;
+        }
+        self.at = self.at.saturating_add(1);
     }
 
     // All of these bytes.
     pub fn bytes(&mut self, s: &[u8])
         ensures { Prints self.old s.now self.new }
     {
-        self.at = bytes(s, self.out, self.at);
+        for b in s {
+            self.byte(*b);
+        }
     }
 
-    // The number n in decimal.
+    // The number n in decimal: the digits of n / 10, then the last one.
     pub fn decimal(&mut self, n: u64)
         ensures { Prints self.old (decimal_of n) self.new }
     {
-        self.at = decimal(n, self.out, self.at);
+        if n < 10 {
+            self.byte(48 + n as u8);
+        } else {
+            self.decimal(n / 10);
+            self.byte(48 + (n % 10) as u8);
+        }
     }
 
     // The number n, and the byte that parts it from what follows.
@@ -159,14 +169,23 @@ impl<'a> Printout<'a> {
     pub fn named_line(&mut self, name: &[u8], n: u64)
         ensures { Prints self.old (named_line name.now n) self.new }
     {
-        self.at = named_line(name, n, self.out, self.at);
+        self.bytes(name);
+        self.byte(b'\t');
+        self.field(n, b'\n');
     }
 
-    // The sum n + k in decimal, also where no machine word holds it.
+    // The sum n + k in decimal, also where no machine word holds it: k is carried into the tens first.
     pub fn decimal_plus(&mut self, n: u64, k: u8)
         ensures { Prints self.old (decimal_of (n + k)) self.new }
     {
-        self.at = decimal_plus(n, k, self.out, self.at);
+        let units = n % 10 + u64::from(k);
+        let tens = n / 10 + units / 10;
+        if tens == 0 {
+            self.byte(48 + units as u8);
+        } else {
+            self.decimal(tens);
+            self.byte(48 + (units % 10) as u8);
+        }
     }
 }
 

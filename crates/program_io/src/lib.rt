@@ -61,7 +61,7 @@ pub fn tell(rt: &HostRuntime, text: &[u8], n: usize)
 
 // A text that was printed into `out`, on standard error. The program's own name stands at its start, and a newline at its end. One that had no room,
 // or that is not taken, is told nowhere.
-fn say_text(rt: &HostRuntime, out: &[u8], printed: Result<usize, Unprinted>)
+pub fn say_text(rt: &HostRuntime, out: &[u8], printed: Result<usize, Unprinted>)
     ensures { NothingPromised }
 {
     if let Some(text) = printed.ok().and_then(|n| out.get(..n)) {
@@ -129,15 +129,15 @@ pub fn put_text(
     ensures { result ≡ true → written_length (written_of printed) ≤ length out.now }
 {
     let n = print::length_of(printed);
-    if out.len() < n {
+    let Some(text) = out.get(..n) else {
         say(
             rt,
             program,
             b"standard output: no room for a text of this length",
         );
         return false;
-    }
-    match rt.stdout().write_all(&out[..n]) {
+    };
+    match rt.stdout().write_all(text) {
         Ok(()) => true,
         Err(error) => {
             let mut title = room::<65536>();
@@ -211,10 +211,7 @@ fn is_help(rt: &HostRuntime, argument: usize) -> bool {
 pub fn helped(rt: &HostRuntime, program: &[u8], usage: &[u8]) -> bool
     ensures { NothingPromised }
 {
-    if is_given(rt, 2) {
-        return false;
-    }
-    if !is_help(rt, 1) {
+    if is_given(rt, 2) || !is_help(rt, 1) {
         return false;
     }
     let mut line = room::<65536>();
