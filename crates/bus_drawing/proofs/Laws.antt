@@ -11,7 +11,7 @@ use Rattle.registers.specs.Record.{allowed, in_phase}
 use Rattle.chip.specs.Plays.{played}
 use Rattle.glass.specs.declared.answer.Shown.{Shown}
 use Rattle.glass.specs.Glass.{glass_of, glass_refusal, place_refusal}
-use Rattle.compiler.specs.declared.answer.Compiled.TheVariants.{Done}
+use Rattle.compiler.specs.Answer.{Done}
 use Rattle.compiler.specs.Compile.{compile_of}
 use Rattle.bus.specs.Apart.{Turn, turn_at, AllAlike, SameBytes, bytes_sent, written_to, SameBut}
 use Rattle.bus.specs.Bus.{Device, Bus, alone, AllTrue}

@@ -15,7 +15,7 @@ use Rattle.drawing.specs.Demand3.{Demand3}
 use Rattle.drawing.specs.Plain.{picture_of}
 use Rattle.drawing.specs.Stream.{stream}
 use Rattle.drawing.proofs.Demand3.{text-demand-3}
-use Rattle.compiler.specs.declared.answer.Compiled.TheVariants.{Done}
+use Rattle.compiler.specs.Answer.{Done}
 use Rattle.compiler.specs.Compile.{Result, compile_of}
 use Rattle.compiler.specs.When.{When}
 use Rattle.compiler.proofs.Laws.{exactly-when, accepted}

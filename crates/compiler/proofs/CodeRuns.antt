@@ -6,7 +6,10 @@ use Prim.Native.Nat.{ℕ, zero, suc, ◌+◌, ◌*◌, ◌-◌, ◌≤◌, ◌<�
 use native.Mathlib.Nat.{suc-mul, mul-le-mul}
 use native.Mathlib.Omega.{arith}
 use lib.Dec.{eqb}
-use lib.ListN.{length, replicate}
+use borrow.Rule.Slice.PartMut.{put_mid}
+use lib.ListN.{length, replicate, length-replicate}
+use lib.Seq.{take_all, sets-eq}
+use Rattle.std.proofs.lemmas.Slice.{put_mid-paste}
 use Rattle.registers.specs.declared.Registers.{Registers}
 use Rattle.chip.specs.Plays.{write_address}
 use Rattle.lists.specs.Syntax.{ValidFill}
@@ -20,11 +23,18 @@ use Rattle.compiler.proofs.Writes.{wrote_then, wrote_none, run_length, runs-leng
 less_one : (n : ℕ) → suc n - 1 ≡ n
 less_one n = omega arith
 
-module _ {l m r : List ℕ} {i j k : ℕ} where
-  pub repeat-turn : {e : ℕ} (n : ℕ) → 0 < n → Wrote l i (e ∷ []) m j → Wrote m j (replicate (n - 1) e) r k → Wrote l i (replicate n e) r k
-  repeat-turn zero h a b = absurd (omega arith)
-  repeat-turn {e} (suc n) h a b = wrote_then a (subst (λ (q : ℕ). Wrote m j (replicate q e) r k) (less_one n) b)
+-- a part filled with one event
+pub filled :
+    (xs ys : List ℕ) (a k n m e : ℕ) → a + n ≤ length xs → ys ≡ replicate m e → m ≡ n → k ≡ n → Wrote xs a (replicate n e) (put_mid a k xs ys) (a + n)
+filled xs ys a k n m e room same em ek =
+    record {
+      list =
+          put_mid-paste a k xs ys (replicate n e) n (same ∙ ap (λ (z : ℕ). replicate z e) em) (sym ek) (sym (length-replicate n e))
+          ∙ rw (take_all n (replicate n e) (omega (arith, length-replicate n e)), sets-eq (replicate n e) xs a (omega (arith, length-replicate n e)), length-replicate n e);
+      next = ap (λ (z : ℕ). a + z) (sym (length-replicate n e));
+    }
 
+module _ {l m r : List ℕ} {i j k : ℕ} where
   runs-turn :
       (pins n e dx dy x y q : ℕ)
       → 0 < q
@@ -34,9 +44,6 @@ module _ {l m r : List ℕ} {i j k : ℕ} where
   runs-turn pins n e dx dy x y zero h a b = absurd (omega arith)
   runs-turn pins n e dx dy x y (suc q) h a b =
       wrote_then a (subst (λ (z : ℕ). Wrote m j (runs_from pins n e dx dy (x + dx) (y + dy) z) r k) (less_one q) b)
-
-pub no_more : (l : List ℕ) (i n e : ℕ) → n ≡ 0 → Wrote l i (replicate n e) l i
-no_more l i n e h = subst (λ (q : ℕ). Wrote l i (replicate q e) l i) (sym h) (wrote_none l i)
 
 no-more-runs : (l : List ℕ) (i pins n e dx dy x y k : ℕ) → k ≡ 0 → Wrote l i (runs_from pins n e dx dy x y k) l i
 no-more-runs l i pins n e dx dy x y k h = subst (λ (q : ℕ). Wrote l i (runs_from pins n e dx dy x y q) l i) (sym h) (wrote_none l i)
@@ -72,17 +79,18 @@ pub record Running (out₀ : List ℕ) (at pins : ℕ) (r : Runs) (out : List �
       → Wrote out₀ at (runs_events pins r) l j
 
 pub running-start :
-    (out : List ℕ) (at pins : ℕ) (r : Runs) → RunsFit r → at + length (runs_events pins r) ≤ length out
-    → Running out at pins r out at r.x r.y r.count
-running-start out at pins r fits room =
-    record {
+    (out : List ℕ) (at pins : ℕ) (r : Runs) (left : ℕ) → left ≡ r.count → RunsFit r → at + length (runs_events pins r) ≤ length out
+    → Running out at pins r out at r.x r.y left
+running-start out at pins r left all fits room =
+    subst (λ (k : ℕ). Running out at pins r out at r.x r.y k) (sym all)
+    (record {
       fits = fits;
       room = omega (arith, runs-length pins r.bytes r.event r.dx r.dy r.x r.y r.count);
       same_length = refl;
       x-limit = omega (arith, fits.x, fits.count);
       y-limit = omega (arith, fits.y, fits.count);
       rest = λ l j w. w;
-    }
+    })
 
 module _ {out₀ : List ℕ} {at pins : ℕ} {r : Runs} {out : List ℕ} {here x y left : ℕ} (m : Running out₀ at pins r out here x y left) where
   pub running-room : 0 < left → (here + (10 + r.bytes) ≤ length out) × (x ≤ 1000) × (y ≤ 1000)
@@ -90,18 +98,19 @@ module _ {out₀ : List ℕ} {at pins : ℕ} {r : Runs} {out : List ℕ} {here x
 
   pub running-turn :
       0 < left → {out' : List ℕ} {here' : ℕ} → length out' ≡ length out
-      → Wrote out here (run_events pins x y r.bytes r.event) out' here'
-      → Running out₀ at pins r out' here' (x + r.dx) (y + r.dy) (left - 1)
-  running-turn h {out'} {here'} same w =
+      → Wrote out here (run_events pins x y r.bytes r.event) out' here' → (left' : ℕ) → left' ≡ left - 1
+      → Running out₀ at pins r out' here' (x + r.dx) (y + r.dy) left'
+  running-turn h {out'} {here'} same w left' one =
       let next = run_length pins x y r.bytes r.event in
-      record {
+      subst (λ (k : ℕ). Running out₀ at pins r out' here' (x + r.dx) (y + r.dy) k) (sym one)
+      (record {
         fits = m.fits;
         room = omega (arith, m.room, one_more left (10 + r.bytes) h, w.next, next, same);
         same_length = same ∙ m.same_length;
         x-limit = omega (arith, m.x-limit, m.fits.dx);
         y-limit = omega (arith, m.y-limit, m.fits.dy);
         rest = λ l j v. m.rest l j (runs-turn pins r.bytes r.event r.dx r.dy x y left h w v);
-      }
+      })
 
   pub running-end : left ≡ 0 → Wrote out₀ at (runs_events pins r) out here
   running-end h = m.rest out here (no-more-runs out here pins r.bytes r.event r.dx r.dy x y left h)

@@ -1,4 +1,5 @@
 -- The ways through `measure`, `write` and `compile`, over plain variables: the two passes turn by turn, and what is returned.
+use Rattle.std.specs.Prelude.{Ok, Err}
 use mathlib.Core.Bool.{true, false}
 use mathlib.Core.List.{List, [], ◌∷◌, ◌++◌}
 use mathlib.Core.Path.{◌≡◌, refl, sym, ap, ◌∙◌, subst}
@@ -13,9 +14,7 @@ use Rattle.registers.specs.declared.Registers.{Registers}
 use Rattle.registers.specs.Record.{allowed, blank}
 use Rattle.registers.proofs.Within.{allowed-registers, allowed-pins}
 use Rattle.lists.specs.declared.Line.{Line}
-use Rattle.lists.specs.declared.LineAt.{LineAt}
-use Rattle.lists.specs.declared.Parsed.TheVariants.{Good, Bad}
-use Rattle.lists.specs.Lists.{Reading, faulty, lines, also_line, reading_from, reading_of, newlines, line_at}
+use Rattle.lists.specs.Lists.{LineThere, Reading, faulty, lines, also_line, reading_from, reading_of, newlines, line_at}
 use Rattle.lists.specs.Syntax.{Valid, AllValid}
 use Rattle.lists.proofs.Positions.{reading-bad, reading-good, reading-next, reading-end, reading-whole, line-valid, newlines-left}
 use Rattle.lists.proofs.Readings.{Accepted, not-lines, same_lines, reading-accepted}
@@ -28,10 +27,10 @@ use Rattle.compiler.proofs.Clocks.{bytes-append, bytes-limit}
 use Rattle.compiler.proofs.Writes.{wrote_then, wrote_none}
 use Rattle.compiler.proofs.Lines.{line-limit}
 use Rattle.compiler.proofs.Tracked.{after-tracked, blank-tracked}
-use Rattle.compiler.specs.declared.answer.Compiled.{Compiled}
-use Rattle.compiler.specs.declared.answer.Compiled.TheVariants.{Done, Refused, BadLine, Short}
-use Rattle.compiler.specs.declared.measure.Measured.{Measured}
-use Rattle.compiler.specs.declared.measure.Measured.TheVariants.{Fault, Whole}
+use Rattle.compiler.specs.Answer.{Compiled}
+use Rattle.compiler.specs.Answer.{Done, Refused, BadLine, Short}
+use Rattle.compiler.specs.Answer.{Measured}
+use Rattle.compiler.specs.Answer.{Fault, Whole}
 use Rattle.compiler.specs.Compile.{answered, into_output, from_reading, compile_of, measure_from, measure_of, lines_of}
 use Rattle.compiler.specs.Promise.{Promise}
 use Rattle.compiler.proofs.Promise.{compile-draws}
@@ -102,11 +101,11 @@ module _ {text : List ℕ} {pins : ℕ} {q₀ : Registers} {at number : ℕ} {q 
       ∙ m.same
 
   -- the line at that place
-  module _ (l : at < length text) (x : LineAt) (e : x ≡ line_at text at) where
-    pub measuring-fault : (k : ℕ) → x.parsed ≡ Bad k → Fault k number ≡ measure_of pins q₀ (reading_of text)
+  module _ (l : at < length text) (x : LineThere) (e : x ≡ line_at text at) where
+    pub measuring-fault : (k : ℕ) → x.parsed ≡ Err k → Fault k number ≡ measure_of pins q₀ (reading_of text)
     measuring-fault k h = sym (ap (measure_from pins q n b) (reading-bad text at number l x e k h)) ∙ m.same
 
-    module _ (y : Line) (h : x.parsed ≡ Good y) where
+    module _ (y : Line) (h : x.parsed ≡ Ok y) where
       module _ (k : Counts) (counted : k ≡ counts_of (line_events pins y q)) where
         events : k.events ≡ length (line_events pins y q)
         events = ap (λ (z : Counts). z.events) counted
@@ -190,11 +189,11 @@ module _ {text : List ℕ} {pins : ℕ} {q₀ : Registers} {out₀ : List ℕ} {
         (m.rest out here (subst (λ (ls : List Line). Wrote out here (stream pins ls q) out here) (sym none) (wrote_none out here))).list
 
     -- the line at that place
-    module _ (l : at < length text) (x : LineAt) (e : x ≡ line_at text at) where
-      pub writing-no-fault : (k : ℕ) → x.parsed ≡ Bad k → ⊥
+    module _ (l : at < length text) (x : LineThere) (e : x ≡ line_at text at) where
+      pub writing-no-fault : (k : ℕ) → x.parsed ≡ Err k → ⊥
       writing-no-fault k h = not-lines k m.number m.left (sym (reading-bad text at m.number l x e k h) ∙ m.reads)
 
-      module _ (y : Line) (h : x.parsed ≡ Good y) where
+      module _ (y : Line) (h : x.parsed ≡ Ok y) where
         rest_of : Behind y (reading_from (m.number + 1) (drop x.next text)) m.left
         rest_of = behind y _ m.left (sym (reading-good text at m.number l x e y h) ∙ m.reads)
 

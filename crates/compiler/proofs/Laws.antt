@@ -14,8 +14,8 @@ use Rattle.registers.specs.Record.{allowed, blank}
 use Rattle.lists.specs.Lists.{Reading, faulty, lines, reading_from, reading_of, newlines}
 use Rattle.lists.proofs.Readings.{reading-refused}
 use Rattle.drawing.specs.Stream.{stream, clocks_of}
-use Rattle.compiler.specs.declared.answer.Compiled.{Compiled}
-use Rattle.compiler.specs.declared.answer.Compiled.TheVariants.{Done, Refused, BadLine, Short}
+use Rattle.compiler.specs.Answer.{Compiled}
+use Rattle.compiler.specs.Answer.{Done, Refused, BadLine, Short}
 use Rattle.compiler.specs.Compile.{Result, answered, into_output, from_reading, compile_of, numbers_of}
 use Rattle.compiler.specs.Promise.{Promise}
 use Rattle.compiler.specs.When.{When, PassesEntry, Streams}

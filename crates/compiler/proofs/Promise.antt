@@ -16,8 +16,8 @@ use Rattle.lists.specs.Lists.{Reading, faulty, lines, reading_of, newlines}
 use Rattle.drawing.specs.Demand3.{Demand3, Draws}
 use Rattle.drawing.specs.Stream.{stream, clocks_of}
 use Rattle.drawing.proofs.Demand3.{text-demand-3}
-use Rattle.compiler.specs.declared.answer.Compiled.{Compiled}
-use Rattle.compiler.specs.declared.answer.Compiled.TheVariants.{Done, Refused, BadLine, Short}
+use Rattle.compiler.specs.Answer.{Compiled}
+use Rattle.compiler.specs.Answer.{Done, Refused, BadLine, Short}
 use Rattle.compiler.specs.Compile.{Result, answered, from_reading, compile_of}
 use Rattle.compiler.specs.Promise.{Promise}
 

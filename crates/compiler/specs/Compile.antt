@@ -7,11 +7,11 @@ use Rattle.registers.specs.Record.{allowed, blank}
 use Rattle.lists.specs.declared.Line.{Line}
 use Rattle.lists.specs.Lists.{Reading, faulty, lines, reading_of, newlines}
 use Rattle.drawing.specs.Stream.{stream, byte_events, clocks_of}
-use Rattle.compiler.specs.declared.answer.Compiled.{Compiled}
-use Rattle.compiler.specs.declared.answer.Compiled.TheVariants.{Done, Refused, BadLine, Short}
+use Rattle.compiler.specs.Answer.{Compiled}
+use Rattle.compiler.specs.Answer.{Done, Refused, BadLine, Short}
 use Rattle.compiler.specs.declared.answer.Numbers.{Numbers}
-use Rattle.compiler.specs.declared.measure.Measured.{Measured}
-use Rattle.compiler.specs.declared.measure.Measured.TheVariants.{Fault, Whole}
+use Rattle.compiler.specs.Answer.{Measured}
+use Rattle.compiler.specs.Answer.{Fault, Whole}
 
 -- the answer, and the output after it
 pub record Result : Type 0 where

@@ -1,3 +1,4 @@
+pub mod Answer
 pub mod Compile
 pub mod Promise
 pub mod When

@@ -2,8 +2,8 @@
 use Rattle.std.specs.Prelude.{List, ◌≡◌, ℕ}
 use Rattle.registers.specs.declared.Chip.{Chip}
 use Rattle.drawing.specs.Demand3.{Draws}
-use Rattle.compiler.specs.declared.answer.Compiled.{Compiled}
-use Rattle.compiler.specs.declared.answer.Compiled.TheVariants.{Done}
+use Rattle.compiler.specs.Answer.{Compiled}
+use Rattle.compiler.specs.Answer.{Done}
 
 -- where the answer is a length, the output's first n events draw the text
 abbrev pub Promise : Compiled → Chip → List ℕ → List ℕ → Type 0

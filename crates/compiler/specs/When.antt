@@ -5,8 +5,8 @@ use Rattle.registers.specs.Record.{allowed, blank}
 use Rattle.lists.specs.declared.Line.{Line}
 use Rattle.lists.specs.Lists.{faulty, lines, reading_of, newlines}
 use Rattle.drawing.specs.Stream.{stream, clocks_of}
-use Rattle.compiler.specs.declared.answer.Compiled.{Compiled}
-use Rattle.compiler.specs.declared.answer.Compiled.TheVariants.{Done, Refused, BadLine, Short}
+use Rattle.compiler.specs.Answer.{Compiled}
+use Rattle.compiler.specs.Answer.{Done, Refused, BadLine, Short}
 
 -- neither 2 nor 9
 pub record PassesEntry (c : Chip) (text : List ℕ) : Type 0 where

@@ -1,18 +1,40 @@
-// The compiler's answers, and document 01's numbers for them.
+// What compiling gives, and document 01's numbers for it.
 ghost use Rattle.std.specs.Prelude.{◌≡◌};
+ghost use Rattle.compiler.specs.declared.answer.CompileError.TheVariants.{BadLine};
+ghost use Rattle.compiler.specs.Answer.{told};
 ghost use Rattle.compiler.specs.Compile.{numbers_of};
 
-// `clocks` are the bus clocks that the events take, nine for each byte. A line is given by its number from 1.
-#[derive(Clone, Copy)]
-pub enum Compiled {
-    Done { length: usize, clocks: usize },
-    Refused(u8),
-    BadLine { number: u8, line: usize },
+use crate::measure::Fault;
+use refusals::Refusal;
+
+// How many events were written, and the bus clocks that they take, nine for each byte.
+#[derive(Clone, Copy, Debug, PartialEq, Eq)]
+pub struct Compiled {
+    pub length: usize,
+    pub clocks: usize,
+}
+
+// Why none were. A line is given by its number from 1.
+#[derive(Clone, Copy, Debug, PartialEq, Eq)]
+pub enum CompileError {
+    Refused(Refusal),
+    BadLine { refusal: Refusal, line: usize },
     Short { needed: usize },
 }
 
+impl From<Fault> for CompileError {
+    ghost from_gives = { λ f e. e ≡ BadLine f.refusal f.line };
+
+    fn from(fault: Fault) -> Self {
+        CompileError::BadLine {
+            refusal: fault.refusal,
+            line: fault.line,
+        }
+    }
+}
+
 // The number given back and the three beside it. Those that an answer does not name are 0.
-#[derive(Clone, Copy)]
+#[derive(Clone, Copy, Debug, PartialEq, Eq)]
 pub struct Numbers {
     pub number: u64,
     pub length: u64,
@@ -20,34 +42,36 @@ pub struct Numbers {
     pub line: u64,
 }
 
-impl Compiled {
-    pub fn numbers(self) -> Numbers
-        ensures { result ≡ numbers_of self }
+const ZEROS: Numbers = Numbers {
+    number: 0,
+    length: 0,
+    clocks: 0,
+    line: 0,
+};
+
+impl Numbers {
+    pub fn of(answer: Result<Compiled, CompileError>) -> Self
+        ensures { result ≡ numbers_of (told answer) }
     {
-        match self {
-            Compiled::Done { length, clocks } => Numbers {
-                number: 0,
-                length: length as u64,
-                clocks: clocks as u64,
-                line: 0,
+        match answer {
+            Ok(compiled) => Numbers {
+                length: compiled.length as u64,
+                clocks: compiled.clocks as u64,
+                ..ZEROS
             },
-            Compiled::Refused(number) => Numbers {
-                number: number as u64,
-                length: 0,
-                clocks: 0,
-                line: 0,
+            Err(CompileError::Refused(refusal)) => Numbers {
+                number: u64::from(refusal.number()),
+                ..ZEROS
             },
-            Compiled::BadLine { number, line } => Numbers {
-                number: number as u64,
-                length: 0,
-                clocks: 0,
+            Err(CompileError::BadLine { refusal, line }) => Numbers {
+                number: u64::from(refusal.number()),
                 line: line as u64,
+                ..ZEROS
             },
-            Compiled::Short { needed } => Numbers {
-                number: 10,
+            Err(CompileError::Short { needed }) => Numbers {
+                number: u64::from(Refusal::ShortOutput.number()),
                 length: needed as u64,
-                clocks: 0,
-                line: 0,
+                ..ZEROS
             },
         }
     }

@@ -26,13 +26,9 @@ pub fn repeat(out: &mut [u16], at: usize, n: usize, event: u16) -> usize
     requires { at + n ≤ length out.old }
     ensures { Wrote out.old at (replicate n event) out.new result }
 {
-    let mut here = at;
-    let mut left = n;
-    while 0 < left {
-        here = put(out, here, event);
-        left -= 1;
-    }
-    here
+    let next = at + n;
+    out[at..next].fill(event);
+    next
 }
 
 // START, address, page return, X and Y, and the control byte before display data.
@@ -50,5 +46,5 @@ pub fn head(out: &mut [u16], at: usize, address: u16, x: u16, y: u16) -> usize
 pub fn write_address(pins: u8) -> u16
     ensures { result ≡ write_address pins }
 {
-    120 + 2 * (pins as u16)
+    120 + 2 * u16::from(pins)
 }

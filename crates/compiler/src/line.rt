@@ -21,13 +21,7 @@ pub fn registers_after(line: Line, registers: Registers) -> Registers
     ensures { result ≡ registers_after line registers }
 {
     match line {
-        Line::Fill {
-            first_column: _,
-            last_column: _,
-            first_bank: _,
-            last_bank: _,
-            byte: _,
-        } => registers,
+        Line::Fill { .. } => registers,
         Line::Set { field, value } => setting::with_field(registers, field, value),
     }
 }
@@ -52,7 +46,7 @@ pub fn count(line: Line, registers: Registers, pins: u8) -> Counts
             last_bank,
             byte,
         ),
-        Line::Set { field, value: _ } => {
+        Line::Set { field, .. } => {
             let words = setting::commands_count(field) * 2;
             Counts {
                 events: words + 3,

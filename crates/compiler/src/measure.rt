@@ -2,21 +2,30 @@
 ghost use Rattle.std.specs.Prelude.{◌≡◌, ◌≤◌};
 ghost use Rattle.lists.specs.Lists.{newlines, reading_of};
 ghost use Rattle.compiler.specs.Writes.{Tracked};
+ghost use Rattle.compiler.specs.Answer.{told_measured};
 ghost use Rattle.compiler.specs.Compile.{measure_of};
 
 use crate::line;
-use lists::Parsed;
+use refusals::Refusal;
 use registers::Registers;
 
+// How many events there are, and how many of them are bytes.
 #[derive(Clone, Copy)]
-pub enum Measured {
-    Fault { number: u8, line: usize },
-    Whole { length: usize, bytes: usize },
+pub struct Measured {
+    pub length: usize,
+    pub bytes: usize,
 }
 
-pub fn measure(text: &[u8], registers: Registers, pins: u8) -> Measured
+// The first line that is refused, by its number from 1.
+#[derive(Clone, Copy)]
+pub struct Fault {
+    pub refusal: Refusal,
+    pub line: usize,
+}
+
+pub fn measure(text: &[u8], registers: Registers, pins: u8) -> Result<Measured, Fault>
     requires { (newlines text.now ≤ 4096) × Tracked registers × (pins ≤ 3) }
-    ensures { result ≡ measure_of pins registers (reading_of text.now) }
+    ensures { told_measured result ≡ measure_of pins registers (reading_of text.now) }
 {
     let mut at = 0;
     let mut number = 1;
@@ -25,15 +34,14 @@ pub fn measure(text: &[u8], registers: Registers, pins: u8) -> Measured
     let mut bytes = 0;
     while at < text.len() {
         let found = lists::line_at(text, at);
-        let parsed = found.parsed;
-        match parsed {
-            Parsed::Bad(refusal) => {
-                return Measured::Fault {
-                    number: refusal,
+        match found.parsed {
+            Err(refusal) => {
+                return Err(Fault {
+                    refusal,
                     line: number,
-                };
+                });
             }
-            Parsed::Good(asked) => {
+            Ok(asked) => {
                 let counts = line::count(asked, tracked, pins);
                 length += counts.events;
                 bytes += counts.bytes;
@@ -43,5 +51,5 @@ pub fn measure(text: &[u8], registers: Registers, pins: u8) -> Measured
         at = found.next;
         number += 1;
     }
-    Measured::Whole { length, bytes }
+    Ok(Measured { length, bytes })
 }

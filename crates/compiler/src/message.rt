@@ -13,10 +13,8 @@ fn commands(out: &mut [u16], at: usize, bytes: &[u16]) -> usize
     ensures { Wrote out.old at (singles bytes.now []) out.new result }
 {
     let mut here = at;
-    let mut done = 0;
-    while done < bytes.len() {
-        here = emit::pair(out, here, 128, bytes[done]);
-        done += 1;
+    for byte in bytes {
+        here = emit::pair(out, here, 128, *byte);
     }
     here
 }

@@ -33,13 +33,7 @@ fn span(first: u8, last: u8) -> usize
     requires { (first ≤ last) × (last ≤ 100) }
     ensures { result ≡ last - first + 1 }
 {
-    (last - first) as usize + 1
-}
-
-fn wide(n: u8) -> u16
-    ensures { result ≡ n }
-{
-    n as u16
+    usize::from(last - first) + 1
 }
 
 // By columns where V = 1, by banks where V = 0.
@@ -54,9 +48,9 @@ fn runs_of(
     requires { ValidFill first_column last_column first_bank last_bank byte }
     ensures { result ≡ runs_of registers first_column last_column first_bank last_bank byte }
 {
-    let x = wide(first_x(registers.mx, first_column, last_column));
-    let y = wide(first_bank);
-    let event = wide(registers::reversed::ordered(registers.data_order, byte));
+    let x = u16::from(first_x(registers.mx, first_column, last_column));
+    let y = u16::from(first_bank);
+    let event = u16::from(registers::reversed::ordered(registers.data_order, byte));
     let columns = span(first_column, last_column);
     let banks = span(first_bank, last_bank);
     if registers.v == 1 {
@@ -127,12 +121,10 @@ fn write_runs(out: &mut [u16], at: usize, pins: u8, runs: Runs) -> usize
     let mut here = at;
     let mut x = runs.x;
     let mut y = runs.y;
-    let mut left = runs.count;
-    while 0 < left {
+    for _ in 0..runs.count {
         here = write_run(out, here, pins, x, y, runs.bytes, runs.event);
         x += runs.dx;
         y += runs.dy;
-        left -= 1;
     }
     here
 }

@@ -6,7 +6,6 @@ ghost use Rattle.drawing.specs.Stream.{stream};
 ghost use Rattle.compiler.specs.Compile.{lines_of};
 
 use crate::line;
-use lists::Parsed;
 use registers::Registers;
 
 pub fn write(out: &mut [u16], text: &[u8], registers: Registers, pins: u8)
@@ -19,10 +18,9 @@ pub fn write(out: &mut [u16], text: &[u8], registers: Registers, pins: u8)
     let mut tracked = registers;
     while at < text.len() {
         let found = lists::line_at(text, at);
-        let parsed = found.parsed;
-        match parsed {
-            Parsed::Bad(_) => return,
-            Parsed::Good(asked) => {
+        match found.parsed {
+            Err(_) => return,
+            Ok(asked) => {
                 here = line::write(out, here, asked, tracked, pins);
                 tracked = line::registers_after(asked, tracked);
             }

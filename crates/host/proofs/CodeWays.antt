@@ -27,7 +27,7 @@ use Rattle.pulses.specs.declared.answer.Pulses.{Pulses}
 use Rattle.pulses.specs.Answer.{pulses_number}
 use Rattle.pulses.specs.Pulse.{pulses_of}
 use Rattle.pulses.specs.Row.{pulse_row, row_of}
-use Rattle.compiler.specs.declared.answer.Compiled.{Compiled}
+use Rattle.compiler.specs.Answer.{Compiled}
 use Rattle.compiler.specs.declared.answer.Numbers.{Numbers}
 use Rattle.compiler.specs.Compile.{Result, answered, compile_of, numbers_of}
 use Rattle.record_words.specs.declared.Read.{Read}

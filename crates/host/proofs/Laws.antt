@@ -13,8 +13,8 @@ use Rattle.registers.specs.State.{State, state}
 use Rattle.registers.proofs.Below.{true-false}
 use Rattle.lists.specs.Lists.{faulty, reading_of}
 use Rattle.lists.proofs.Readings.{reading-refused}
-use Rattle.compiler.specs.declared.answer.Compiled as answer
-use Rattle.compiler.specs.declared.answer.Compiled.TheVariants.{Done, Refused, BadLine, Short}
+use Rattle.compiler.specs.Answer as answer
+use Rattle.compiler.specs.Answer.{Done, Refused, BadLine, Short}
 use Rattle.compiler.specs.Compile.{compile_of, numbers_of}
 use Rattle.compiler.specs.When.{NotRead}
 use Rattle.compiler.proofs.Laws.{two-exactly, exactly-when, demand-3-promised}

@@ -1,5 +1,7 @@
 -- Printing and parsing are each other's inverse: what is printed of something well formed is parsed as that, and what is not malformed is a
 -- print of something well formed.
+use Rattle.lists.specs.declared.Line.{Line}
+use Rattle.std.specs.Prelude.{Option, Some, None, Result, Err}
 use mathlib.Core.Path.{◌≡◌, refl, sym, ap, ◌∙◌}
 use mathlib.Core.Bool.{Bool, true, false, cond, ◌&&◌}
 use mathlib.Core.List.{List, [], ◌∷◌}
@@ -12,22 +14,18 @@ use lib.Dec.{T, eqb, eqb→eq}
 use lib.ListN.{length, get_or}
 use Rattle.registers.specs.Record.{names}
 use Rattle.registers.proofs.Below.{all_below, below_at, and_left, and_right}
-use Rattle.text.specs.declared.Number.{Number}
-use Rattle.text.specs.declared.Number.TheVariants.{Value, Malformed}
 use Rattle.text.specs.Decimal.{number_of, decimal}
 use Rattle.text.specs.Text.{bytes, same_bytes, split, join, count_of, index_of}
 use Rattle.text.proofs.Finding.{same-equal}
 use Rattle.text.proofs.Joining.{join-split, split-join}
 use Rattle.text.proofs.Printing.{printed, read_back, decimal-free}
 use Rattle.text.proofs.Splitting.{index-found}
-use Rattle.lists.specs.declared.Parsed.{Parsed}
-use Rattle.lists.specs.declared.Parsed.TheVariants.{Bad}
 use Rattle.lists.specs.Line.{tab, is_field, piece_at, number_at, fill_within, set_within, fill_of, put_of, set_of, of_pieces, line_of}
 use Rattle.lists.proofs.Ranges.{field-tested, field-test}
 use Rattle.lists.specs.Syntax.{Syntax, put, fill, set, print, WellFormed, Parses}
 
 -- the answer to what is well formed: 7, 8 or the line
-abbrev pub answer_to : Syntax → Parsed
+abbrev pub answer_to : Syntax → Result Line ℕ
 answer_to (put c b n) = fill_within c c b b n
 answer_to (fill c0 c1 b0 b1 n) = fill_within c0 c1 b0 b1 n
 answer_to (set f n) = set_within f n
@@ -98,19 +96,19 @@ put_back : (p : List ℕ) (k : ℕ) → length (split tab p) ≡ k → p ≡ joi
 put_back p k e = sym (join-split tab p) ∙ ap (join tab) (exactly (split tab p) k e)
 
 data Read (q : List ℕ) : Type 0 where
-  badly : number_of q ≡ Malformed → Read q
-  well : (n : ℕ) → number_of q ≡ Value n → Read q
+  badly : number_of q ≡ None → Read q
+  well : (n : ℕ) → number_of q ≡ Some n → Read q
 
 read : (q : List ℕ) → Read q
 read q = go (number_of q) refl
   where
-    go : (x : Number) → number_of q ≡ x → Read q
-    go Malformed e = badly e
-    go (Value n) e = well n e
+    go : (x : Option ℕ) → number_of q ≡ x → Read q
+    go None e = badly e
+    go (Some n) e = well n e
 
 -- an answer of 6, or a line that parses
-abbrev Answer : List ℕ → Parsed → Type 0
-Answer p x = (x ≡ Bad 6) ⊎ Parses p
+abbrev Answer : List ℕ → Result Line ℕ → Type 0
+Answer p x = (x ≡ Err 6) ⊎ Parses p
 
 module _ (p : List ℕ) where
   abbrev ps : List (List ℕ)
@@ -170,15 +168,15 @@ module _ (p : List ℕ) where
       })
 
   -- the number of pieces that a word asks for
-  of_length : (k : ℕ) (x : Parsed) → (length ps ≡ k → Answer p x) → Answer p (cond (eqb (length ps) k) x (Bad 6))
+  of_length : (k : ℕ) (x : Result Line ℕ) → (length ps ≡ k → Answer p x) → Answer p (cond (eqb (length ps) k) x (Err 6))
   of_length k x f = go (ℕ_discrete (length ps) k)
     where
-      go : Dec (length ps ≡ k) → Answer p (cond (eqb (length ps) k) x (Bad 6))
+      go : Dec (length ps ≡ k) → Answer p (cond (eqb (length ps) k) x (Err 6))
       go (yes e) = rw (eq-eqb (length ps) k e) (f e)
       go (no m) = inl (rw (ne_eqb (length ps) k m))
 
   -- a word, or what else comes
-  of_word : (w : List ℕ) (x y : Parsed) → (piece_at ps 0 ≡ w → Answer p x) → Answer p y → Answer p (cond (same_bytes (piece_at ps 0) w) x y)
+  of_word : (w : List ℕ) (x y : Result Line ℕ) → (piece_at ps 0 ≡ w → Answer p x) → Answer p y → Answer p (cond (same_bytes (piece_at ps 0) w) x y)
   of_word w x y f g = go (same_bytes (piece_at ps 0) w) refl
     where
       go : (t : Bool) → same_bytes (piece_at ps 0) w ≡ t → Answer p (cond t x y)

@@ -1,4 +1,5 @@
 -- The line at a place of a text, and the reading of a whole text restated place by place.
+use Rattle.std.specs.Prelude.{Result, Ok, Err}
 use mathlib.Core.Path.{◌≡◌, refl, sym, ap, ◌∙◌}
 use mathlib.Core.Bool.{Bool, true, false, cond}
 use mathlib.Core.List.{List, [], ◌∷◌}
@@ -13,12 +14,9 @@ use lib.Seq.{get_or-drop}
 use Rattle.text.proofs.Finding.{find-from, find_none}
 use Rattle.text.proofs.Splitting.{end-bounds, pieces-last, pieces_more, split-count, split-some}
 use Rattle.lists.specs.declared.Line.{Line}
-use Rattle.lists.specs.declared.LineAt.{LineAt}
-use Rattle.lists.specs.declared.Parsed.{Parsed}
-use Rattle.lists.specs.declared.Parsed.TheVariants.{Good, Bad}
 use Rattle.lists.specs.Line.{line_of}
 use Rattle.lists.specs.Lists.{newline, newlines, faulty, lines, also_line, with_line, last_piece, pieces_from, reading_from, reading_of}
-use Rattle.lists.specs.Lists.{line_at, next_line, newline_before}
+use Rattle.lists.specs.Lists.{LineThere, line_at, next_line, newline_before}
 use Rattle.lists.specs.Syntax.{Valid}
 use Rattle.lists.proofs.Laws.{valid}
 
@@ -32,11 +30,11 @@ module _ (text : List ℕ) (at end : ℕ) (e : end ≡ find_of text at newline) 
       go (no m) = absurd (omega (arith, e ∙ find_none text at newline (omega arith)))
 
   pub line-there :
-      end < length text → (x : Parsed) → x ≡ line_of (take (end - at) (drop at text)) → record { parsed = x; next = end + 1 } ≡ line_at text at
+      end < length text → (x : Result Line ℕ) → x ≡ line_of (take (end - at) (drop at text)) → record { parsed = x; next = end + 1 } ≡ line_at text at
   unfolding line_at next_line
   line-there h x ex = rw (← e, lt-ltb end (length text) h, ex)
 
-  pub line-missing : length text ≤ end → record { parsed = Bad 6; next = length text } ≡ line_at text at
+  pub line-missing : length text ≤ end → record { parsed = Err 6; next = length text } ≡ line_at text at
   unfolding line_at next_line
   line-missing h = rw (← e, le-ltb end (length text) h)
 
@@ -212,21 +210,21 @@ reading_step text at n l = go (dec_lt end (length text))
         (simp (length-take, length-drop) (omega (arith, end-bounds text at newline end (omega arith) refl))))
 
 -- the same for x, what the line at that place was found to be
-module _ (text : List ℕ) (at n : ℕ) (l : at < length text) (x : LineAt) (e : x ≡ line_at text at) where
-  pub reading-bad : (k : ℕ) → x.parsed ≡ Bad k → reading_from n (drop at text) ≡ faulty k n
+module _ (text : List ℕ) (at n : ℕ) (l : at < length text) (x : LineThere) (e : x ≡ line_at text at) where
+  pub reading-bad : (k : ℕ) → x.parsed ≡ Err k → reading_from n (drop at text) ≡ faulty k n
   reading-bad k q = reading_step text at n l ∙ rw (← e, q)
 
-  pub reading-good : (y : Line) → x.parsed ≡ Good y → reading_from n (drop at text) ≡ also_line y (reading_from (n + 1) (drop x.next text))
+  pub reading-good : (y : Line) → x.parsed ≡ Ok y → reading_from n (drop at text) ≡ also_line y (reading_from (n + 1) (drop x.next text))
   reading-good y q = reading_step text at n l ∙ rw (← e, q)
 
   pub reading-next : (at < x.next) × (x.next ≤ length text)
   reading-next = rw e (next-after text at l, next-bound text at)
 
 -- an accepted line is within its limits, and its newline is one of those left
-good-or-bad : (y : Line) (k : ℕ) → Bad k ≡ Good y → ⊥
+good-or-bad : (y : Line) (k : ℕ) → Err k ≡ Ok y → ⊥
 good-or-bad y k q = let z : ◌≡◌ {A = ℕ} 0 1 = cc in omega arith
 
-module _ (text : List ℕ) (at : ℕ) (l : at < length text) (x : LineAt) (e : x ≡ line_at text at) (y : Line) (q : x.parsed ≡ Good y) where
+module _ (text : List ℕ) (at : ℕ) (l : at < length text) (x : LineThere) (e : x ≡ line_at text at) (y : Line) (q : x.parsed ≡ Ok y) where
   -- the newline that ends it
   line-ended : find_of text at newline < length text
   line-ended = go (dec_lt (find_of text at newline) (length text))
@@ -234,13 +232,13 @@ module _ (text : List ℕ) (at : ℕ) (l : at < length text) (x : LineAt) (e : x
       go : Dec (find_of text at newline < length text) → find_of text at newline < length text
       go (yes h) = h
       go (no m) =
-          absurd (good-or-bad y 6 (ap (λ (z : LineAt). z.parsed) (line-missing text at (find_of text at newline) refl (omega arith) ∙ sym e) ∙ q))
+          absurd (good-or-bad y 6 (ap (λ (z : LineThere). z.parsed) (line-missing text at (find_of text at newline) refl (omega arith) ∙ sym e) ∙ q))
 
   line-is : x ≡ record { parsed = line_of (take (find_of text at newline - at) (drop at text)); next = find_of text at newline + 1 }
   line-is = e ∙ sym (line-there text at (find_of text at newline) refl line-ended _ refl)
 
   pub line-valid : Valid y
-  line-valid = valid (take (find_of text at newline - at) (drop at text)) y (sym (ap (λ (z : LineAt). z.parsed) line-is) ∙ q)
+  line-valid = valid (take (find_of text at newline - at) (drop at text)) y (sym (ap (λ (z : LineThere). z.parsed) line-is) ∙ q)
 
   pub newlines-left : newlines (drop at text) ≡ 1 + newlines (drop x.next text)
   newlines-left =

@@ -1,4 +1,5 @@
 -- The limits of a line, as tests and as facts.
+use Rattle.std.specs.Prelude.{Ok, Err}
 use mathlib.Core.Path.{◌≡◌, refl, sym, subst, ◌∙◌}
 use mathlib.Core.Bool.{Bool, true, false, not, ◌&&◌, ◌||◌}
 use Prim.Native.Nat.{ℕ, ◌≤◌, ◌<◌}
@@ -11,7 +12,6 @@ use Rattle.registers.specs.Places.{H, X, Y, GR}
 use Rattle.registers.specs.Record.{limits}
 use Rattle.text.proofs.Numbers.{and_both}
 use Rattle.lists.specs.declared.Line.TheVariants.{Fill, Set}
-use Rattle.lists.specs.declared.Parsed.TheVariants.{Good, Bad}
 use Rattle.lists.specs.Line.{is_field, fill_fits, fill_within, set_within}
 use Rattle.lists.specs.Syntax.{Field, ValidFill}
 
@@ -67,10 +67,10 @@ module _ (c0 c1 b0 b1 n : ℕ) where
     pub tested-cells : x ≡ true → ValidFill c0 c1 b0 b1 n
     tested-cells t = fit-cells (sym e ∙ t)
 
-    pub filled : x ≡ true → Good (Fill c0 c1 b0 b1 n) ≡ fill_within c0 c1 b0 b1 n
+    pub filled : x ≡ true → Ok (Fill c0 c1 b0 b1 n) ≡ fill_within c0 c1 b0 b1 n
     filled t = rw (sym e ∙ t)
 
-    pub not-filled : x ≡ false → Bad 7 ≡ fill_within c0 c1 b0 b1 n
+    pub not-filled : x ≡ false → Err 7 ≡ fill_within c0 c1 b0 b1 n
     not-filled t = rw (sym e ∙ t)
 
 -- a register that a `set` line can name
@@ -100,8 +100,8 @@ module _ (f : ℕ) where
 
 -- a value against the limit of its field; no row is listed
 module _ (f n l : ℕ) (e : l ≡ get_or limits f 0) where
-  pub value-fits : n ≤ l → Good (Set f n) ≡ set_within f n
+  pub value-fits : n ≤ l → Ok (Set f n) ≡ set_within f n
   value-fits h = rw (le-leb n (get_or limits f 0) (omega arith))
 
-  pub value-too-wide : l < n → Bad 7 ≡ set_within f n
+  pub value-too-wide : l < n → Err 7 ≡ set_within f n
   value-too-wide h = rw (lt-leb n (get_or limits f 0) (omega arith))

@@ -1,4 +1,5 @@
 -- Whole texts: that the lines of an accepted list are valid, how many there are, and which numbers a fault has.
+use Rattle.std.specs.Prelude.{Result, Ok, Err}
 use mathlib.Core.Path.{◌≡◌, refl, sym, subst}
 use mathlib.Core.List.{List, [], ◌∷◌}
 use Prim.Native.Nat.{ℕ, suc, ◌+◌, ◌≤◌, ◌<◌}
@@ -7,8 +8,6 @@ use lib.ListN.{length}
 use Rattle.text.specs.Text.{split}
 use Rattle.text.proofs.Splitting.{split-count}
 use Rattle.lists.specs.declared.Line.{Line}
-use Rattle.lists.specs.declared.Parsed.{Parsed}
-use Rattle.lists.specs.declared.Parsed.TheVariants.{Good, Bad}
 use Rattle.lists.specs.Line.{line_of}
 use Rattle.lists.specs.Lists.{newline, newlines, Reading, faulty, lines, with_line, last_piece, pieces_from, reading_from}
 use Rattle.lists.specs.Syntax.{AllValid}
@@ -42,10 +41,10 @@ read_more : (k n : ℕ) (p : List ℕ) (rest : Reading) → Read k (n + 1) rest 
 unfolding AllValid
 read_more k n p rest r = go (line_of p) refl rest r
   where
-    go : (x : Parsed) → line_of p ≡ x → (rest : Reading) → Read k (n + 1) rest → Read (suc k) n (with_line x n rest)
-    go (Good l) e rest (fault j m b lo hi) = fault j m b (omega arith) (omega arith)
-    go (Good l) e rest (list ls s c) = list (l ∷ ls) (valid p l e, s) (omega arith)
-    go (Bad j) e rest r = fault j n (numbers p j e) (omega arith) (omega arith)
+    go : (x : Result Line ℕ) → line_of p ≡ x → (rest : Reading) → Read k (n + 1) rest → Read (suc k) n (with_line x n rest)
+    go (Ok l) e rest (fault j m b lo hi) = fault j m b (omega arith) (omega arith)
+    go (Ok l) e rest (list ls s c) = list (l ∷ ls) (valid p l e, s) (omega arith)
+    go (Err j) e rest r = fault j n (numbers p j e) (omega arith) (omega arith)
 
 read-pieces : (n : ℕ) (ps : List (List ℕ)) → 0 < length ps → Read (length ps) n (pieces_from n ps)
 read-pieces n [] h = absurd (omega arith)

@@ -1,11 +1,10 @@
 -- A whole drawing list: its lines, or its first fault; and the line at a place of its text.
-use Rattle.std.specs.Prelude.{cond, ◌||◌, List, [], ◌∷◌, ℕ, ◌+◌, ◌-◌, eqb, leb, ltb, length, get_or, take, drop}
+use Rattle.std.specs.Prelude.{cond, ◌||◌, List, [], ◌∷◌, ℕ, ◌+◌, ◌-◌, eqb, leb, ltb, length, get_or, take, drop, Result, Ok, Err}
 use Rattle.std.specs.Borrow.{Bor}
+use Rattle.refusals.specs.Numbers.{numbered}
 use Rattle.text.specs.Text.{split, count_of, find_of}
 use Rattle.lists.specs.declared.Line.{Line}
 use Rattle.lists.specs.declared.LineAt.{LineAt}
-use Rattle.lists.specs.declared.Parsed.{Parsed}
-use Rattle.lists.specs.declared.Parsed.TheVariants.{Good, Bad}
 use Rattle.lists.specs.declared.reader.Reader.{Reader}
 use Rattle.lists.specs.Line.{line_of}
 
@@ -27,9 +26,9 @@ also_line l (faulty k n) = faulty k n
 also_line l (lines ls) = lines (l ∷ ls)
 
 -- line n and what comes after it
-abbrev pub with_line : Parsed → ℕ → Reading → Reading
-with_line (Good l) n rest = also_line l rest
-with_line (Bad k) n rest = faulty k n
+abbrev pub with_line : Result Line ℕ → ℕ → Reading → Reading
+with_line (Ok l) n rest = also_line l rest
+with_line (Err k) n rest = faulty k n
 
 -- after the last newline there is nothing
 abbrev pub last_piece : ℕ → List ℕ → Reading
@@ -59,11 +58,20 @@ unfoldable pub next_line : List ℕ → ℕ → ℕ
 next_line text at = behind (find_of text at newline) text
 
 -- the bytes up to the newline at `end`; 6 where there is none
-abbrev pub line_up_to : ℕ → List ℕ → ℕ → Parsed
-line_up_to end text at = cond (ltb end (length text)) (line_of (take (end - at) (drop at text))) (Bad 6)
+abbrev pub line_up_to : ℕ → List ℕ → ℕ → Result Line ℕ
+line_up_to end text at = cond (ltb end (length text)) (line_of (take (end - at) (drop at text))) (Err 6)
 
--- the line that starts at `at`, and where the next one starts
-unfoldable pub line_at : List ℕ → ℕ → LineAt
+-- a line or the number of its refusal, and where the next one starts
+pub record LineThere : Type 0 where
+  pub parsed : Result Line ℕ
+  pub next : ℕ
+
+-- what the code says of it
+abbrev pub told : LineAt → LineThere
+told l = record { parsed = numbered l.parsed; next = l.next }
+
+-- the line that starts at `at`
+unfoldable pub line_at : List ℕ → ℕ → LineThere
 line_at text at = record { parsed = line_up_to (find_of text at newline) text at; next = next_line text at }
 
 -- how many newlines the byte before a place is: 1 or 0
@@ -77,7 +85,7 @@ abbrev pub reader_at : Bor (List ℕ) → ℕ → Reader
 reader_at text at = record { text = text; at = at }
 
 -- what it gives where it stands
-abbrev pub line_here : Reader → LineAt
+abbrev pub line_here : Reader → LineThere
 line_here r = line_at r.text.now r.at
 
 -- past the line where it stands

@@ -2,15 +2,19 @@
 #![tactic(auto)]
 
 ghost use Rattle.std.specs.Prelude.{◌≡◌};
-ghost use Rattle.lists.specs.Lists.{newlines, line_at, newline_before};
+ghost use Rattle.lists.specs.Lists.{newlines, told, line_at, newline_before};
+
+use refusals::Refusal;
 
 pub mod grammar;
 pub mod reader;
 
-const NEWLINE: u8 = 10;
+use crate::reader::Reader;
+
+const NEWLINE: u8 = b'\n';
 
 // What a line asks for. `put` is a fill of one cell. A register is given by its place in the record's order.
-#[derive(Clone, Copy)]
+#[derive(Clone, Copy, Debug, PartialEq, Eq)]
 pub enum Line {
     Fill {
         first_column: u8,
@@ -25,52 +29,39 @@ pub enum Line {
     },
 }
 
-// A line, or document 01's number 6, 7 or 8.
-#[derive(Clone, Copy)]
-pub enum Parsed {
-    Good(Line),
-    Bad(u8),
-}
-
-// The line at a place of a text, and the place where the next one starts.
+// The line at a place of a text, or why it is refused, and the place where the next one starts.
 #[derive(Clone, Copy)]
 pub struct LineAt {
-    pub parsed: Parsed,
+    pub parsed: Result<Line, Refusal>,
     pub next: usize,
 }
 
 // The line of the reader of this text at this place. Whoever calls it passes plain numbers and slices.
 pub fn line_at(text: &[u8], at: usize) -> LineAt
-    ensures { result ≡ line_at text.now at }
+    ensures { told result ≡ line_at text.now at }
 {
-    reader::line(reader::new(text, at))
+    Reader::new(text, at).line()
 }
 
 // 1 where the byte before a place is a newline, else 0.
+#[tactic(auto, unfolding(crate::specs::Lists::newline_before))]
 fn newline_before(text: &[u8], at: usize) -> usize
     ensures { result ≡ newline_before text.now at }
 {
-    if at == 0 {
+    if at == 0 || text.len() < at {
         return 0;
     }
-    let last = at - 1;
-    if text.len() <= last {
-        return 0;
-    }
-    if text[last] == NEWLINE {
-        return 1;
-    }
-    0
+    usize::from(text[at - 1] == NEWLINE)
 }
 
 // How many newlines a text has: one reader goes over it from line to line.
 pub fn count_newlines(text: &[u8]) -> usize
     ensures { result ≡ newlines text.now }
 {
-    let mut reader = reader::new(text, 0);
+    let mut reader = Reader::new(text, 0);
     let mut count = 0;
     while reader.at < text.len() {
-        reader = reader::next(reader);
+        reader = reader.next();
         count += newline_before(text, reader.at);
     }
     count

@@ -9,10 +9,10 @@ returns-then-registers-eq1 c =
       eq-eqb _ _ c.if-registers-eq1.true,
       c.span-banks.ensures,
       c.span-columns.ensures,
-      c.wide-event.ensures,
+      c.from-event.ensures,
       c.ordered.ensures,
-      c.wide-y.ensures,
-      c.wide-x.ensures,
+      c.from-y.ensures,
+      c.from-x.ensures,
       c.first_x.ensures,
     )
 
@@ -23,9 +23,9 @@ returns-else-registers-eq1 c =
       ne_eqb _ _ c.if-registers-eq1.false,
       c.span-banks.ensures,
       c.span-columns.ensures,
-      c.wide-event.ensures,
+      c.from-event.ensures,
       c.ordered.ensures,
-      c.wide-y.ensures,
-      c.wide-x.ensures,
+      c.from-y.ensures,
+      c.from-x.ensures,
       c.first_x.ensures,
     )

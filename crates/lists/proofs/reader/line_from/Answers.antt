@@ -8,7 +8,7 @@ pub slice_bounds-line-start : goal.slice_bounds-line-start
 slice_bounds-line-start c = starts-before _ _ _ c.find-end.ensures c.if-end-text.true
 
 pub returns-then-end-text : goal.returns-then-end-text
-returns-then-end-text c = line-there _ _ _ c.find-end.ensures c.if-end-text.true _ c.line-parsed.ensures
+returns-then-end-text c = line-there _ _ _ c.find-end.ensures c.if-end-text.true _ c.line.ensures
 
 pub returns : goal.returns
 returns c = line-missing _ _ _ c.find-end.ensures c.if-end-text.false
