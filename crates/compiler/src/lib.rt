@@ -36,7 +36,12 @@ fn blanked(registers: Registers) -> Registers
 }
 
 // The events of a text that neither 2 nor 9 refuses, from the pins and the blanked registers.
-fn compile_lines(registers: Registers, pins: u8, text: &[u8], out: &mut [u16]) -> Result<Compiled, CompileError>
+fn compile_lines(
+    registers: Registers,
+    pins: u8,
+    text: &[u8],
+    out: &mut [u16],
+) -> Result<Compiled, CompileError>
     requires { (newlines text.now ≤ 4096) × Tracked registers × (pins ≤ 3) }
     ensures { answered (told result) out.new ≡ from_reading pins registers (reading_of text.now) out.old }
 {
