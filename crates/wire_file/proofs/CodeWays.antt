@@ -1,28 +1,27 @@
 -- Ways through the code, over plain variables: one answer after the other.
-use mathlib.Core.Bool.{Bool, true, false, cond, not, ◌&&◌}
+use mathlib.Core.Bool.{Bool, true, false, cond, not, ◌&&◌, and-false}
 use mathlib.Core.List.{List, [], ◌∷◌, ◌++◌, append_assoc, append-nil}
-use mathlib.Core.Logic.{◌⊎◌, ⊎_elim}
 use mathlib.Core.Path.{◌≡◌, refl, sym, ap, ◌∙◌, subst}
-use Prim.Native.Nat.{ℕ, ◌+◌, ◌-◌, ◌<◌}
+use Prim.Native.Nat.{ℕ, ◌+◌, ◌<◌, ◌≤◌}
 use native.Mathlib.Omega.{arith}
-use borrow.Author.Tests.{ltb-false, not-true}
+use borrow.Author.Tests.{ltb-false, not-true, lt-ltb, le-ltb}
 use lib.Dec.{T, ltb}
 use lib.ListN.{length, take}
-use Rattle.std.specs.Prelude.{Option, None, is_some, Result, Ok, Err, is_err, min}
-use Rattle.std.specs.Result.{result_unwrap_or, result_err}
+use Rattle.std.specs.Prelude.{Option, Some, None, Result, Ok, Err, is_err, min}
+use Rattle.std.specs.Result.{result_unwrap_or}
 use Rattle.std.specs.declared.io.Error.{Error}
-use Rattle.print.specs.Printed.{Wrote}
-use Rattle.print.proofs.Writing.{wrote_none}
+use Rattle.print.specs.declared.Printout.{Printout}
 use Rattle.program_io.specs.Answers.{Answer, answer_of, count_of, bytes_of, has_failed, text_of, last_failure, most_calls}
 use Rattle.wire_samples.specs.declared.Wires.{Wires}
 use Rattle.wire_samples.specs.Sample.{at_start}
 use Rattle.wire_samples.specs.Feed.{after_all, are_samples}
 use Rattle.wire_text.specs.declared.Reading.{Reading}
 use Rattle.wire_text.specs.Capture.{samples_in}
-use Rattle.wire_text.specs.Parts.{start_of, is_over, part_text, after_part, after_parts, all_parts}
+use Rattle.wire_text.specs.Parts.{start_of, is_over, after_part, after_parts, all_parts}
 use Rattle.wire_text.proofs.Laws.{wires-in-parts, over-in-parts, rest-untold}
 use Rattle.wire_file.specs.declared.Turn.{Turn}
-use Rattle.wire_file.specs.Answers.{text_given, after_answer, Turned, taken_in}
+use Rattle.wire_file.specs.declared.Turn.TheVariants.{More, Last}
+use Rattle.wire_file.specs.Answers.{after_answer, Turned, turned, taken_in}
 use Rattle.wire_file.specs.Some.{TurnOfSome, Enough, none_given, refused_for_good, no_more_calls, CaptureOfSome}
 
 -- ---- one answer
@@ -35,48 +34,47 @@ none-counted a h = go a.got h
     go (Err e) h = omega arith
 
 pub failed-turn :
-    (got : Result ℕ Error) (buffer : List ℕ) (r : Reading) (failed : Option Error) → failed ≡ result_err got → is_some failed ≡ true → (l : List ℕ)
-    → (◌≡◌ {A = Turned} (record { after = r; more = false; failed = failed }) (taken_in (answer_of got buffer) r))
-    × Wrote l 0 (text_given (answer_of got buffer) r) l 0
+    (got : Result ℕ Error) (buffer : List ℕ) (r : Reading) (e : Error) → got ≡ Err e → turned (Last r (Some e)) ≡ taken_in (answer_of got buffer) r
 unfolding taken_in
-failed-turn (Ok n) buffer r failed e h l = absurd (subst T (sym (rw e at h)) tt)
-failed-turn (Err x) buffer r failed e h l =
-    let none : min 0 (length buffer) ≡ 0 = omega arith in
-    rw (e, none) (refl, wrote_none l 0 (omega arith))
+failed-turn got buffer r e is = let none : min 0 (length buffer) ≡ 0 = omega arith in rw (is, none)
 
-pub given-turn :
-    (got : Result ℕ Error) (buffer : List ℕ) (r : Reading) (failed : Option Error) → failed ≡ result_err got → is_some failed ≡ false
-    → (n : ℕ) → n ≡ count_of (answer_of got buffer) → (after : Reading) → after ≡ after_part r (take n buffer)
-    → (over : Bool) → over ≡ is_over after → {l m : List ℕ} {j : ℕ} → Wrote l 0 (part_text r (take n buffer)) m j
-    → (◌≡◌ {A = Turned} (record { after = after; more = ltb 0 n && not over; failed = None }) (taken_in (answer_of got buffer) r))
-    × Wrote l 0 (text_given (answer_of got buffer) r) m j
-unfolding taken_in
-given-turn (Ok k) buffer r failed e h n en after ea over eo w = rw (← en) (rw (eo, ea) refl, w)
-given-turn (Err x) buffer r failed e h n en after ea over eo w = absurd (subst T (rw e at h) tt)
+-- the read gave these bytes
+module _
+    (got : Result ℕ Error) (buffer : List ℕ) (r : Reading) (k : ℕ) (is : got ≡ Ok k) (n : ℕ) (en : n ≡ count_of (answer_of got buffer)) (after : Reading)
+    (ea : after ≡ after_part r (take n buffer)) (over : Bool) (eo : over ≡ is_over after)
+  where
+    turn_of : Bool → Turned
+    turn_of more = record { after = after; more = more; failed = None }
+
+    bytes-taken : turn_of (ltb 0 n && not over) ≡ taken_in (answer_of got buffer) r
+    unfolding taken_in turn_of
+    bytes-taken = rw (eo, ea, en, is) refl
+
+    pub more-turn : 0 < n → over ≡ false → turned (More after) ≡ taken_in (answer_of got buffer) r
+    unfolding turn_of
+    more-turn some going = ap turn_of (sym (rw (lt-ltb 0 n some, going) refl)) ∙ bytes-taken
+
+    pub over-turn : over ≡ true → (e : Option Error) → e ≡ None → turned (Last after e) ≡ taken_in (answer_of got buffer) r
+    unfolding turn_of
+    over-turn h e none = rw none (ap turn_of (sym (rw h (and-false (ltb 0 n)))) ∙ bytes-taken)
+
+    pub end-turn : n ≤ 0 → (e : Option Error) → e ≡ None → turned (Last after e) ≡ taken_in (answer_of got buffer) r
+    unfolding turn_of
+    end-turn h e none = rw none (ap turn_of (sym (rw (le-ltb 0 n h) refl)) ∙ bytes-taken)
 
 -- ---- the loop
 
--- what has been read since the start is what some answers gave: a part for each, but for one that failed
-pub record ReadSoFar (pins : ℕ) (r : Reading) (more : Bool) (failed : Option Error) (turns : ℕ) : Type 0 where
+-- what has been read in so many turns is what some answers gave: a part for each
+pub record ReadSoFar (pins : ℕ) (r : Reading) (turns : ℕ) : Type 0 where
   pub answers : List Answer
   pub parts : List (List ℕ)
   pub are-given : all_parts parts ≡ text_of answers
   pub is_read : r ≡ after_parts (start_of pins) parts
-  pub is_failed : failed ≡ last_failure answers
-  pub is_enough : more ≡ false → Enough pins answers
-  pub are-counted : length answers + turns ≡ most_calls
+  pub none_failed : None ≡ last_failure answers
+  pub are-counted : length answers ≡ turns
 
-pub begun : (pins : ℕ) (r : Reading) → r ≡ start_of pins → ReadSoFar pins r true None most_calls
-begun pins r e =
-    record {
-      answers = [];
-      parts = [];
-      are-given = refl;
-      is_read = e;
-      is_failed = refl;
-      is_enough = λ h. absurd (subst T h tt);
-      are-counted = refl;
-    }
+pub begun : (pins : ℕ) (r : Reading) → r ≡ start_of pins → ReadSoFar pins r 0
+begun pins r e = record { answers = []; parts = []; are-given = refl; is_read = e; none_failed = refl; are-counted = refl }
 
 -- one part more
 after_one : (r : Reading) (ps : List (List ℕ)) (p : List ℕ) → after_parts r (ps ++ p ∷ []) ≡ after_part (after_parts r ps) p
@@ -116,51 +114,69 @@ enough pins a before true true es eo h =
     refused_for_good (a ∷ before) (λ rest. rest-untold pins (text_of (a ∷ before)) rest (not-true _ (sym eo)))
 enough pins a before true false es eo h = absurd (subst T h tt)
 
-pub turn-read :
-    {pins : ℕ} {r : Reading} {more : Bool} {failed : Option Error} {turns : ℕ} {out₀ out : List ℕ} (t : Turn)
-    → ReadSoFar pins r more failed turns → 0 < turns → TurnOfSome t out₀ out r
-    → ReadSoFar pins t.told.reading t.more t.failed (turns - 1)
-unfolding taken_in
-turn-read {pins} {r} t so_far left turn =
-    record {
-      answers = a ∷ so_far.answers;
-      parts = parts;
-      are-given = given;
-      is_read = after ∙ read;
-      is_failed = ap (λ (u : Turned). u.failed) turn.is_taken_in;
-      is_enough = λ h. enough pins a so_far.answers _ _ refl over (sym (ap (λ (u : Turned). u.more) turn.is_taken_in) ∙ h);
-      are-counted = omega (arith, so_far.are-counted);
-    }
-  where
-    a : Answer
-    a = turn.answer
+unclear_in :
+    (pins : ℕ) (r : Reading) (parts : List (List ℕ)) (bytes : List ℕ) → r ≡ after_parts (start_of pins) parts → all_parts parts ≡ bytes
+    → r.wires.unclear ≡ (after_all at_start (samples_in bytes)).unclear
+unclear_in pins r parts bytes is_read are-given =
+    ap (λ (q : Reading). q.wires.unclear) is_read
+    ∙ ap (λ (w : Wires). w.unclear) (wires-in-parts pins parts)
+    ∙ ap (λ (l : List ℕ). (after_all at_start (samples_in l)).unclear) are-given
+
+module _ {pins : ℕ} {r : Reading} {turns : ℕ} (so_far : ReadSoFar pins r turns) where
+  module _ (t : Turn) {p q : Printout} (turn : TurnOfSome t p q r) where
+    answers : List Answer
+    answers = turn.answer ∷ so_far.answers
 
     parts : List (List ℕ)
-    parts = parts_then so_far.parts a
+    parts = parts_then so_far.parts turn.answer
 
-    given : all_parts parts ≡ text_of (a ∷ so_far.answers)
-    given = given-then a so_far.parts ∙ ap (λ (l : List ℕ). l ++ bytes_of a) so_far.are-given
+    given : all_parts parts ≡ text_of (turn.answer ∷ so_far.answers)
+    unfolding parts
+    given = given-then turn.answer so_far.parts ∙ ap (λ (l : List ℕ). l ++ bytes_of turn.answer) so_far.are-given
 
-    after : t.told.reading ≡ after_answer a r
-    after = ap (λ (u : Turned). u.after) turn.is_taken_in
+    read : after_answer turn.answer r ≡ after_parts (start_of pins) parts
+    unfolding parts
+    read = read-then turn.answer so_far.parts r (start_of pins) so_far.is_read
 
-    read : after_answer a r ≡ after_parts (start_of pins) parts
-    read = read-then a so_far.parts r (start_of pins) so_far.is_read
+    after : (turned t).after ≡ after_parts (start_of pins) parts
+    unfolding taken_in
+    after = ap (λ (u : Turned). u.after) turn.is_taken_in ∙ read
 
-    over : is_over (after_answer a r) ≡ not (are_samples (text_of (a ∷ so_far.answers)))
+    over : is_over (after_answer turn.answer r) ≡ not (are_samples (text_of (turn.answer ∷ so_far.answers)))
     over = ap is_over read ∙ over-in-parts pins parts ∙ ap (λ (l : List ℕ). not (are_samples l)) given
 
-pub all_read :
-    {pins : ℕ} {r : Reading} {more printed : Bool} {failed : Option Error} {turns : ℕ} → ReadSoFar pins r more failed turns
-    → (printed ≡ true → (more ≡ false) ⊎ (turns ≡ 0))
-    → CaptureOfSome (record { unclear = r.wires.unclear; failed = failed; printed = printed }) pins
-all_read {pins} {r} so_far why =
-    record {
-      answers = so_far.answers;
-      is_unclear =
-          ap (λ (q : Reading). q.wires.unclear) so_far.is_read
-          ∙ ap (λ (w : Wires). w.unclear) (wires-in-parts pins so_far.parts)
-          ∙ ap (λ (l : List ℕ). (after_all at_start (samples_in l)).unclear) so_far.are-given;
-      is_failed = so_far.is_failed;
-      is_enough = λ h. ⊎_elim so_far.is_enough (λ z. no_more_calls so_far.answers (omega (arith, z, so_far.are-counted))) (why h);
-    }
+    -- nothing more is read
+    pub last-read :
+        (printed : Bool) → (printed ≡ true → (turned t).more ≡ false)
+        → CaptureOfSome (record { unclear = (turned t).after.wires.unclear; failed = (turned t).failed; printed = printed }) pins
+    unfolding taken_in
+    last-read printed why =
+        record {
+          answers = turn.answer ∷ so_far.answers;
+          is_unclear = unclear_in pins (turned t).after parts (text_of (turn.answer ∷ so_far.answers)) after given;
+          is_failed = ap (λ (u : Turned). u.failed) turn.is_taken_in;
+          is_enough =
+              λ h. enough pins turn.answer so_far.answers _ _ refl over (sym (ap (λ (u : Turned). u.more) turn.is_taken_in) ∙ why h);
+        }
+
+  pub turn-read : (next : Reading) {p q : Printout} → TurnOfSome (More next) p q r → ReadSoFar pins next (turns + 1)
+  unfolding taken_in
+  turn-read next turn =
+      record {
+        answers = turn.answer ∷ so_far.answers;
+        parts = parts (More next) turn;
+        are-given = given (More next) turn;
+        is_read = after (More next) turn;
+        none_failed = ap (λ (u : Turned). u.failed) turn.is_taken_in;
+        are-counted = omega (arith, so_far.are-counted);
+      }
+
+  -- after as many calls as are made at most
+  pub all_read : turns ≡ most_calls → CaptureOfSome (record { unclear = r.wires.unclear; failed = None; printed = true }) pins
+  all_read many =
+      record {
+        answers = so_far.answers;
+        is_unclear = unclear_in pins r so_far.parts (text_of so_far.answers) so_far.is_read so_far.are-given;
+        is_failed = so_far.none_failed;
+        is_enough = λ h. no_more_calls so_far.answers (so_far.are-counted ∙ many);
+      }

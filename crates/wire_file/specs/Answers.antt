@@ -1,10 +1,11 @@
 -- What is made of an answer: the text of the bytes that it gave. One that failed gives none, and leaves the reading as it was.
-use Rattle.std.specs.Prelude.{Option, Bool, cond, not, ◌&&◌, List, [], ℕ, ltb}
+use Rattle.std.specs.Prelude.{Option, None, Bool, true, false, cond, not, ◌&&◌, List, [], ℕ, ltb}
 use Rattle.std.specs.declared.io.Error.{Error}
 use Rattle.program_io.specs.Answers.{Answer, count_of, bytes_of, has_failed, failure_of}
 use Rattle.wire_text.specs.declared.Reading.{Reading}
 use Rattle.wire_text.specs.Parts.{is_over, part_text, after_part}
 use Rattle.wire_file.specs.declared.Turn.{Turn}
+use Rattle.wire_file.specs.declared.Turn.TheVariants.{More, Last}
 
 abbrev pub text_given : Answer → Reading → List ℕ
 text_given a r = cond (has_failed a) [] (part_text r (bytes_of a))
@@ -18,7 +19,8 @@ pub record Turned : Type 0 where
   pub failed : Option Error
 
 abbrev pub turned : Turn → Turned
-turned t = record { after = t.told.reading; more = t.more; failed = t.failed }
+turned (More r) = record { after = r; more = true; failed = None }
+turned (Last r e) = record { after = r; more = false; failed = e }
 
 -- there may be more where there was a byte and all were samples
 unfoldable pub taken_in : Answer → Reading → Turned

@@ -1,7 +1,8 @@
 -- What is promised of samples that are read from a file. No contract can say which bytes a file holds, nor that the system was asked: for some
 -- answers the unclear samples are those of exactly the bytes that they gave, and no later byte would change the capture.
 use Rattle.std.specs.Prelude.{true, List, ◌∷◌, ◌++◌, ◌≡◌, ℕ, length}
-use Rattle.print.specs.Printed.{Wrote}
+use Rattle.print.specs.Prints.{Prints}
+use Rattle.print.specs.declared.Printout.{Printout}
 use Rattle.program_io.specs.Answers.{Answer, count_of, text_of, last_failure, most_calls}
 use Rattle.wire_samples.specs.Sample.{at_start}
 use Rattle.wire_samples.specs.Feed.{after_all}
@@ -12,10 +13,10 @@ use Rattle.wire_file.specs.declared.Captured.{Captured}
 use Rattle.wire_file.specs.Answers.{text_given, turned, taken_in}
 
 -- one answer, and what it left of an output
-pub record TurnOfSome (t : Turn) (out₀ out : List ℕ) (before : Reading) : Type 0 where
+pub record TurnOfSome (t : Turn) (p q : Printout) (before : Reading) : Type 0 where
   pub answer : Answer
   pub is_taken_in : turned t ≡ taken_in answer before
-  pub is_told : Wrote out₀ 0 (text_given answer before) out t.told.length
+  pub is_told : Prints p (text_given answer before) q
 
 -- why no further call was made
 pub data Enough (pins : ℕ) : List Answer → Type 0 where

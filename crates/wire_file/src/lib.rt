@@ -6,27 +6,30 @@
 // answers of the system gave. That the file's own bytes are read and their text printed is tested, as for `capture_file`.
 #![tactic(auto)]
 
-ghost use Rattle.std.specs.Prelude.{◌≡◌, length};
-ghost use Rattle.print.specs.Printed.{Wrote};
+ghost use Rattle.std.specs.Prelude.{◌≡◌};
+ghost use Rattle.print.specs.Prints.{Prints};
 ghost use Rattle.program_io.specs.Answers.{answer_of};
 ghost use Rattle.wire_file.specs.Answers.{text_given, turned, taken_in};
 ghost use Rattle.wire_file.specs.Some.{TurnOfSome, CaptureOfSome};
 
+use print::Printout;
 use program_io::reading::Source;
 use std::io;
 use std::io::Read;
-use wire_text::{Reading, Told};
+use wire_text::Reading;
 
-// What the bytes of one read come to, whether there may be more to read, and why that read failed, if it did.
+// What the bytes of one read come to.
 #[derive(Clone, Copy)]
-pub struct Turn {
-    pub told: Told,
-    pub more: bool,
-    pub failed: Option<io::Error>,
+pub enum Turn {
+    // There may be more to read.
+    More(Reading),
+    // There is no more, or it would change nothing; and why that read failed, if it did.
+    Last(Reading, Option<io::Error>),
 }
 
 // How many samples were unclear. `failed` is the error with which reading stopped, if it did. Where not `printed`, the text could not be put,
 // which has been said, and nothing more was read.
+// kept (promise): CaptureOfSome tells the unclear samples and the failure where the text could not be put, too
 #[derive(Clone, Copy)]
 pub struct Captured {
     pub unclear: u64,
@@ -34,41 +37,28 @@ pub struct Captured {
     pub printed: bool,
 }
 
-// What a read answered, and the buffer that it was lent. One that failed gives no text: where it is the first, the `pins` line is not put either.
-pub fn take_in(got: io::Result<usize>, buf: &[u8], reading: Reading, out: &mut [u8]) -> Turn
+// What a read answered, and the buffer that it was lent. One that failed gives no text: where it is the first, the `pins` line is not printed either.
+pub fn take_in(got: io::Result<usize>, buf: &[u8], reading: Reading, out: &mut Printout) -> Turn
     ensures result_value { turned result ≡ taken_in (answer_of got buf.now) reading }
-    ensures wrote { Wrote out.old 0 (text_given (answer_of got buf.now) reading) out.new result.told.length }
+    ensures told { Prints out.old (text_given (answer_of got buf.now) reading) out.new }
 {
     let n = program_io::reading::count(got, buf);
-    let failed = got.err();
-    if failed.is_some() {
-        return Turn {
-            told: Told { reading, length: 0 },
-            more: false,
-            failed,
-        };
+    if let Err(error) = got {
+        return Turn::Last(reading, Some(error));
     }
-    let told = wire_text::tell(reading, &buf[..n], out);
-    let after = told.reading;
-    Turn {
-        told,
-        more: (0 < n) & !wire_text::is_over(after),
-        failed: None,
+    let after = wire_text::tell(reading, &buf[..n], out);
+    if 0 < n && !wire_text::is_over(after) {
+        Turn::More(after)
+    } else {
+        Turn::Last(after, None)
     }
-}
-
-// Room for the text of a part of 65,536 bytes: four bytes for each, and 41 (`part-bound` in wire_text/proofs/Laws.antt).
-fn room() -> [u8; 262185]
-    ensures { 262185 ≡ length result }
-{
-    [0; 262185]
 }
 
 // One read. The buffer stands here, so that the loop knows nothing of it.
-fn read_once(source: &mut Source, reading: Reading, out: &mut [u8]) -> Turn
+fn read_once(source: &mut Source, reading: Reading, out: &mut Printout) -> Turn
     ensures { TurnOfSome result out.old out.new reading }
 {
-    let mut buf = program_io::large_buffer();
+    let mut buf = program_io::room::<65536>();
     let got = source.read(&mut buf);
     take_in(got, &buf, reading, out)
 }
@@ -77,26 +67,39 @@ fn read_once(source: &mut Source, reading: Reading, out: &mut [u8]) -> Turn
 pub fn capture(rt: &HostRuntime, program: &[u8], source: &mut Source, pins: u8) -> Captured
     ensures { CaptureOfSome result pins }
 {
-    let mut out = room();
+    // Room for the text of a part: four bytes for each of its bytes, and 41 (`part-bound` in wire_text/proofs/Laws.antt).
+    let mut room = program_io::room::<262185>();
     let mut reading = wire_text::start(pins);
-    let mut more = true;
-    let mut failed = None;
-    let mut printed = true;
-    // A proved loop needs a number that falls, and nothing says that an input ends. No run makes this many turns.
-    let mut turns = u64::MAX;
-    while 0 < turns && more && printed {
+    // Nothing says that an input ends. No run makes this many turns.
+    for _ in 0..u64::MAX {
+        let mut out = Printout {
+            out: &mut room,
+            at: 0,
+        };
         let turn = read_once(source, reading, &mut out);
-        let told = turn.told;
-        reading = told.reading;
-        more = turn.more;
-        failed = turn.failed;
-        printed = program_io::put(rt, program, &out, told.length);
-        turns -= 1;
+        let length = out.at;
+        let printed = program_io::put_text(rt, program, &room, Ok(length));
+        match turn {
+            Turn::More(after) if printed => reading = after,
+            Turn::More(after) => {
+                return Captured {
+                    unclear: after.wires.unclear,
+                    failed: None,
+                    printed,
+                };
+            }
+            Turn::Last(after, failed) => {
+                return Captured {
+                    unclear: after.wires.unclear,
+                    failed,
+                    printed,
+                };
+            }
+        }
     }
-    let wires = reading.wires;
     Captured {
-        unclear: wires.unclear,
-        failed,
-        printed,
+        unclear: reading.wires.unclear,
+        failed: None,
+        printed: true,
     }
 }
