@@ -6,7 +6,7 @@ use mathlib.Core.Path.{◌≡◌, refl, sym, ap, ◌∙◌, subst}
 use Prim.Native.Nat.{ℕ, ◌+◌, ◌*◌, ◌^◌, ◌≤◌, ◌<◌}
 use native.Mathlib.Nat.{zero-add, add-zero}
 use native.Mathlib.Omega.{arith}
-use borrow.Author.Tests.{lt-ltb, le-ltb, lt-leb, le-leb}
+use borrow.Author.Tests.{lt-ltb, le-ltb}
 use lib.ListN.{length, drop, length-append}
 use lib.Seq.{sets}
 use Rattle.registers.specs.declared.Chip.{Chip}
@@ -19,7 +19,7 @@ use Rattle.lists.specs.Syntax.{Valid, AllValid}
 use Rattle.lists.proofs.Positions.{reading-bad, reading-good, reading-next, reading-end, reading-whole, line-valid, newlines-left}
 use Rattle.lists.proofs.Readings.{Accepted, not-lines, same_lines, reading-accepted}
 use Rattle.drawing.specs.Plain.{registers_after}
-use Rattle.drawing.specs.Stream.{line_events, stream, byte_events, clocks_of}
+use Rattle.drawing.specs.Stream.{line_events, stream, byte_events}
 use Rattle.drawing.proofs.Fits.{line-fits}
 use Rattle.compiler.specs.declared.line.Counts.{Counts}
 use Rattle.compiler.specs.Writes.{Wrote, Tracked, counts_of}
@@ -28,10 +28,10 @@ use Rattle.compiler.proofs.Writes.{wrote_then, wrote_none}
 use Rattle.compiler.proofs.Lines.{line-limit}
 use Rattle.compiler.proofs.Tracked.{after-tracked, blank-tracked}
 use Rattle.compiler.specs.Answer.{Compiled}
-use Rattle.compiler.specs.Answer.{Done, Refused, BadLine, Short}
+use Rattle.compiler.specs.Answer.{Refused}
 use Rattle.compiler.specs.Answer.{Measured}
 use Rattle.compiler.specs.Answer.{Fault, Whole}
-use Rattle.compiler.specs.Compile.{answered, into_output, from_reading, compile_of, measure_from, measure_of, lines_of}
+use Rattle.compiler.specs.Compile.{answered, from_reading, compile_of, measure_from, measure_of, lines_of}
 use Rattle.compiler.specs.Promise.{Promise}
 use Rattle.compiler.proofs.Promise.{compile-draws}
 
@@ -236,10 +236,6 @@ known : (pins : ℕ) (q : Registers) (r : Reading) (n b : ℕ) → Whole n b ≡
 known pins q (faulty k i) n b e = absurd (let z : ◌≡◌ {A = ℕ} 0 1 = cc in omega arith)
 known pins q (lines ls) n b e = record { good = refl; count = cc; bytes = cc }
 
-fault-known : (pins : ℕ) (q : Registers) (r : Reading) (k i : ℕ) → Fault k i ≡ measure_of pins q r → r ≡ faulty k i
-fault-known pins q (faulty k' i') k i e = let a : k' ≡ k = cc in let d : i' ≡ i = cc in cc
-fault-known pins q (lines ls) k i e = absurd (let z : ◌≡◌ {A = ℕ} 0 1 = cc in omega arith)
-
 accepted-list : (text : List ℕ) (ls : List Line) → reading_of text ≡ lines ls → Accepted text ls
 unfolding reading_of
 accepted-list text ls e = reading-accepted 1 text ls e
@@ -247,9 +243,6 @@ accepted-list text ls e = reading-accepted 1 text ls e
 -- x is what the first pass found
 
 module _ (pins : ℕ) (q : Registers) (text : List ℕ) (x : Measured) (measured : x ≡ measure_of pins q (reading_of text)) where
-  pub bad-line : (out : List ℕ) (k i : ℕ) → x ≡ Fault k i → answered (BadLine k i) out ≡ from_reading pins q (reading_of text) out
-  bad-line out k i e = sym (ap (λ (r : Reading). from_reading pins q r out) (fault-known pins q (reading_of text) k i (sym e ∙ measured)))
-
   module _ (n b : ℕ) (e : x ≡ Whole n b) where
     whole : Known pins q (reading_of text) n b
     whole = known pins q (reading_of text) n b (sym e ∙ measured)
@@ -260,32 +253,6 @@ module _ (pins : ℕ) (q : Registers) (text : List ℕ) (x : Measured) (measured
         let list = accepted-list text (lines_of (reading_of text)) whole.good in
         let limit = stream-limit pins (lines_of (reading_of text)) q list.within in
         omega (arith, few, whole.bytes, list.counted, bytes-limit (stream pins (lines_of (reading_of text)) q), limit)
-
-    module _ (out : List ℕ) where
-      into-output : into_output (stream pins (lines_of (reading_of text)) q) out ≡ from_reading pins q (reading_of text) out
-      into-output = sym (ap (λ (r : Reading). from_reading pins q r out) whole.good)
-
-      pub too_short : length out < n → answered (Short n) out ≡ from_reading pins q (reading_of text) out
-      too_short h =
-          let es = stream pins (lines_of (reading_of text)) q in
-          let short : length out < length es = omega (arith, whole.count) in
-          ap (λ (z : ℕ). answered (Short z) out) whole.count ∙ sym (rw (lt-leb (length es) (length out) short)) ∙ into-output
-
-      module _ (room : n ≤ length out) where
-        pub writable :
-            (reading_of text ≡ lines (lines_of (reading_of text))) × (length (stream pins (lines_of (reading_of text)) q) ≤ length out)
-        writable = (whole.good, subst (λ (z : ℕ). z ≤ length out) whole.count room)
-
-        pub written :
-            (out' : List ℕ) → out' ≡ sets out 0 (stream pins (lines_of (reading_of text)) q)
-            → answered (Done n (9 * b)) out' ≡ from_reading pins q (reading_of text) out
-        written out' h =
-            let es = stream pins (lines_of (reading_of text)) q in
-            ap (λ (z : ℕ). answered (Done z (9 * b)) out') whole.count
-            ∙ ap (λ (z : ℕ). answered (Done (length es) (9 * z)) out') whole.bytes
-            ∙ ap (λ (z : List ℕ). answered (Done (length es) (clocks_of es)) z) h
-            ∙ sym (rw (le-leb (length es) (length out) writable.1))
-            ∙ into-output
 
 -- ---- `compile`: 2 and 9
 

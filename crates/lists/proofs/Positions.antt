@@ -7,7 +7,7 @@ use Prim.Native.Nat.{ℕ, zero, suc, ◌+◌, ◌-◌, ◌≤◌, ◌<◌}
 use lib.Dec.{eqb}
 use native.Mathlib.Decide.{dec_le, dec_lt}
 use native.Mathlib.Omega.{arith}
-use borrow.Author.Tests.{eq-eqb, ne_eqb, eqb-true, lt-ltb, le-ltb, le-leb, lt-leb}
+use borrow.Author.Tests.{eq-eqb, ne_eqb, eqb-true, lt-ltb, le-ltb, lt-leb}
 use lib.ListN.{length, get_or, take, drop, length-take, length-drop, drop_of_length-le}
 use Rattle.text.specs.Text.{before, split, find_of}
 use lib.Seq.{get_or-drop}
@@ -49,15 +49,7 @@ module _ (text : List ℕ) (at end : ℕ) (e : end ≡ find_of text at newline) 
 -- ---- the byte before a place
 
 module _ (text : List ℕ) (at : ℕ) where
-  pub none-at-start : at ≡ 0 → 0 ≡ newline_before text at
-  unfolding newline_before
-  none-at-start h = rw (eq-eqb at 0 h)
-
   module _ (h : at ≡ 0 → ⊥) where
-    pub none-past-end : length text ≤ at - 1 → 0 ≡ newline_before text at
-    unfolding newline_before
-    none-past-end l = rw (ne_eqb at 0 h, le-leb (length text) (at - 1) l)
-
     module _ (l : at - 1 < length text) where
       pub one-before : get_or text (at - 1) 0 ≡ newline → 1 ≡ newline_before text at
       unfolding newline_before
@@ -168,9 +160,6 @@ module _ (text : List ℕ) (at : ℕ) (l : at < length text) where
             split-count newline (drop at text),
             ap length (pieces-last text at newline end (omega arith) refl (omega arith)),
           ))
-
-pub newlines-end : (text : List ℕ) (at n : ℕ) → length text ≤ at → n + newlines (drop at text) ≡ newlines text → n ≡ newlines text
-newlines-end text at n h e = rw (← e, drop_of_length-le text h) (omega arith)
 
 -- ---- the reading from a place on, the line there being line n
 

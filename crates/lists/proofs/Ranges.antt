@@ -1,18 +1,14 @@
 -- The limits of a line, as tests and as facts.
-use Rattle.std.specs.Prelude.{Ok, Err}
-use mathlib.Core.Path.{◌≡◌, refl, sym, subst, ◌∙◌}
+use mathlib.Core.Path.{◌≡◌, refl, subst}
 use mathlib.Core.Bool.{Bool, true, false, not, ◌&&◌, ◌||◌}
 use Prim.Native.Nat.{ℕ, ◌≤◌, ◌<◌}
 use native.Mathlib.Decide.{dec_lt}
 use native.Mathlib.Omega.{arith}
-use borrow.Author.Tests.{eq-eqb, ne_eqb, leb-true, ltb-true, le-leb, lt-leb, lt-ltb, le-ltb}
+use borrow.Author.Tests.{eq-eqb, ne_eqb, leb-true, ltb-true, le-leb, lt-ltb, le-ltb}
 use lib.Dec.{eqb, leb, ltb}
-use lib.ListN.{get_or}
 use Rattle.registers.specs.Places.{H, X, Y, GR}
-use Rattle.registers.specs.Record.{limits}
 use Rattle.text.proofs.Numbers.{and_both}
-use Rattle.lists.specs.declared.Line.TheVariants.{Fill, Set}
-use Rattle.lists.specs.Line.{is_field, fill_fits, fill_within, set_within}
+use Rattle.lists.specs.Line.{is_field, fill_fits}
 use Rattle.lists.specs.Syntax.{Field, ValidFill}
 
 -- six bits, or a bank before 16
@@ -62,17 +58,6 @@ module _ (c0 c1 b0 b1 n : ℕ) where
         narrow-test b1 n h.last_bank h.six_bits,
       )
 
-  -- the two ways out of the test, x being what it answered
-  module _ (x : Bool) (e : x ≡ fill_fits c0 c1 b0 b1 n) where
-    pub tested-cells : x ≡ true → ValidFill c0 c1 b0 b1 n
-    tested-cells t = fit-cells (sym e ∙ t)
-
-    pub filled : x ≡ true → Ok (Fill c0 c1 b0 b1 n) ≡ fill_within c0 c1 b0 b1 n
-    filled t = rw (sym e ∙ t)
-
-    pub not-filled : x ≡ false → Err 7 ≡ fill_within c0 c1 b0 b1 n
-    not-filled t = rw (sym e ∙ t)
-
 -- a register that a `set` line can name
 not_equal : (f g : ℕ) → not (eqb f g) ≡ true → f ≡ g → ⊥
 not_equal f g t e =
@@ -97,11 +82,3 @@ module _ (f : ℕ) where
 
   pub field-test : Field f → is_field f ≡ true
   field-test h = rw (lt-ltb f 29 h.place, ne_eqb f H h.not_h, ne_eqb f X h.not_x, ne_eqb f Y h.not_y, ne_eqb f GR h.not_gr)
-
--- a value against the limit of its field; no row is listed
-module _ (f n l : ℕ) (e : l ≡ get_or limits f 0) where
-  pub value-fits : n ≤ l → Ok (Set f n) ≡ set_within f n
-  value-fits h = rw (le-leb n (get_or limits f 0) (omega arith))
-
-  pub value-too-wide : l < n → Err 7 ≡ set_within f n
-  value-too-wide h = rw (lt-leb n (get_or limits f 0) (omega arith))
