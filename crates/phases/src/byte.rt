@@ -3,16 +3,19 @@ ghost use Rattle.std.specs.Prelude.{◌≡◌};
 ghost use Rattle.phases.specs.Changes.{controlled};
 ghost use Rattle.phases.specs.Phases.{is_addressed, phase_after_address, phase_after_control, rs_of, awaits_content, is_endless, phase_after_content};
 
+use crate::interface::Interface;
 use registers::{Chip, Phase};
 
 // High seven bits 01111 SA1 SA0.
+#[tactic(auto, unfolding(crate::specs::Phases::is_addressed))]
 pub fn is_addressed(pins: u8, byte: u8) -> bool
     ensures { result ≡ is_addressed pins byte }
 {
-    (byte / 2) as u16 == 60 + pins as u16
+    u16::from(byte / 2) == 60 + u16::from(pins)
 }
 
 // The low bit of a matching address: 0 writes, 1 reads.
+#[tactic(auto, unfolding(crate::specs::Phases::phase_after_address))]
 pub fn phase_after_address(matched: bool, byte: u8) -> Phase
     ensures { result ≡ phase_after_address matched byte }
 {
@@ -48,41 +51,22 @@ pub fn phase_after_control(byte: u8) -> Phase
 pub fn controlled(chip: Chip, byte: u8) -> Chip
     ensures { result ≡ controlled byte chip }
 {
-    let mut next = chip.in_phase(phase_after_control(byte));
-    next.last_rs = rs_of(byte);
-    next
+    let interface = Interface::of(chip).controlled(byte);
+    interface.whole(chip.registers, chip.pixels)
 }
 
 // A command or display data comes next.
 pub fn awaits_content(phase: Phase) -> bool
     ensures { result ≡ awaits_content phase }
 {
-    match phase {
-        Phase::Idle => false,
-        Phase::AddressAwaited => false,
-        Phase::Ignoring => false,
-        Phase::ControlAwaited => false,
-        Phase::OneByte(_) => true,
-        Phase::EndlessBytes(_) => true,
-        Phase::Reading => false,
-        Phase::ReadEnded => false,
-    }
+    matches!(phase, Phase::OneByte(_) | Phase::EndlessBytes(_))
 }
 
 // More than one byte may come.
 pub fn is_endless(phase: Phase) -> bool
     ensures { result ≡ is_endless phase }
 {
-    match phase {
-        Phase::Idle => false,
-        Phase::AddressAwaited => false,
-        Phase::Ignoring => false,
-        Phase::ControlAwaited => false,
-        Phase::OneByte(_) => false,
-        Phase::EndlessBytes(_) => true,
-        Phase::Reading => false,
-        Phase::ReadEnded => false,
-    }
+    matches!(phase, Phase::EndlessBytes(_))
 }
 
 // One byte is over when it is there; endless bytes go on.
@@ -90,13 +74,7 @@ pub fn phase_after_content(phase: Phase) -> Phase
     ensures { result ≡ phase_after_content phase }
 {
     match phase {
-        Phase::Idle => phase,
-        Phase::AddressAwaited => phase,
-        Phase::Ignoring => phase,
-        Phase::ControlAwaited => phase,
         Phase::OneByte(_) => Phase::ControlAwaited,
-        Phase::EndlessBytes(_) => phase,
-        Phase::Reading => phase,
-        Phase::ReadEnded => phase,
+        _ => phase,
     }
 }

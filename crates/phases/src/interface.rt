@@ -7,10 +7,12 @@ ghost use Rattle.registers.specs.Record.{reset_registers};
 ghost use Rattle.phases.specs.Changes.{controlled, read_byte, sensed, pulsed};
 ghost use Rattle.phases.specs.Interface.{whole, turned};
 
+use crate::byte::{phase_after_control, rs_of};
+use crate::other::is_reading;
 use registers::{Chip, Phase, PixelCounts, Registers};
 
 // The pins SA, the status byte TR, the last RS, and where the bus stands.
-#[derive(Clone, Copy)]
+#[derive(Clone, Copy, Debug, PartialEq, Eq, Hash)]
 pub struct Interface {
     pub pins: u8,
     pub status: u8,
@@ -22,12 +24,11 @@ impl Interface {
     pub fn of(chip: Chip) -> Self
         ensures { whole chip.registers result chip.pixels ≡ chip }
     {
-        let phase = chip.phase;
         Self {
             pins: chip.pins,
             status: chip.status,
             last_rs: chip.last_rs,
-            phase,
+            phase: chip.phase,
         }
     }
 
@@ -35,42 +36,39 @@ impl Interface {
     pub fn whole(self, registers: Registers, pixels: PixelCounts) -> Chip
         ensures { result ≡ whole registers self pixels }
     {
-        let phase = self.phase;
         Chip {
             registers,
             pins: self.pins,
             status: self.status,
             last_rs: self.last_rs,
-            phase,
+            phase: self.phase,
             pixels,
         }
     }
 
-    // A field that holds an enum is not stored to: the struct is made anew.
     pub fn in_phase(self, phase: Phase) -> Self
         ensures { result ≡ turned self phase }
     {
+        Self { phase, ..self }
+    }
+
+    #[tactic(auto, unfolding(crate::specs::Changes::controlled))]
+    pub fn controlled(self, byte: u8) -> Self
+        ensures { (r : Registers) (n : PixelCounts) → whole r result n ≡ controlled byte (whole r self n) }
+    {
         Self {
-            pins: self.pins,
-            status: self.status,
-            last_rs: self.last_rs,
-            phase,
+            last_rs: rs_of(byte),
+            phase: phase_after_control(byte),
+            ..self
         }
     }
 
-    pub fn controlled(mut self, byte: u8) -> Self
-        ensures { (r : Registers) (n : PixelCounts) → whole r result n ≡ controlled byte (whole r self n) }
-    {
-        self.last_rs = crate::byte::rs_of(byte);
-        self.in_phase(crate::byte::phase_after_control(byte))
-    }
-
     // What the bus carries when the master reads: the status byte while reading after RS 0, else 255.
+    #[tactic(auto, unfolding(crate::specs::Changes::read_byte))]
     pub fn read_byte(self) -> u8
         ensures { (r : Registers) (n : PixelCounts) → result ≡ read_byte (whole r self n) }
     {
-        let phase = self.phase;
-        if crate::other::is_reading(phase) & !self.last_rs {
+        if is_reading(self.phase) & !self.last_rs {
             self.status
         } else {
             255
@@ -78,19 +76,20 @@ impl Interface {
     }
 
     // A reset pulse: reset values but for the pins. The registers are reset beside it.
+    #[tactic(auto, unfolding(crate::specs::Changes::pulsed))]
     pub fn pulsed(self) -> Self
         ensures { (r : Registers) (n : PixelCounts) → whole reset_registers result n ≡ pulsed (whole r self n) }
     {
-        let pins = self.pins;
         Self {
-            pins,
             status: 0,
             last_rs: false,
             phase: Phase::Idle,
+            ..self
         }
     }
 
     // A reading is taken where SM = 1 and PD = 0.
+    #[tactic(auto, unfolding(crate::specs::Changes::sensed))]
     pub fn sensed(mut self, registers: Registers, value: u8) -> Self
         ensures { (n : PixelCounts) → whole registers result n ≡ sensed value (whole registers self n) }
     {

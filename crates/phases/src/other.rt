@@ -3,36 +3,24 @@ ghost use Rattle.std.specs.Prelude.{◌≡◌};
 ghost use Rattle.phases.specs.Changes.{read_byte, sensed, pulsed};
 ghost use Rattle.phases.specs.Phases.{is_reading, phase_after_last_read};
 
-use registers::{Chip, Phase};
+use crate::interface::Interface;
+use registers::{Chip, Phase, Registers};
 
 pub fn is_reading(phase: Phase) -> bool
     ensures { result ≡ is_reading phase }
 {
-    match phase {
-        Phase::Idle => false,
-        Phase::AddressAwaited => false,
-        Phase::Ignoring => false,
-        Phase::ControlAwaited => false,
-        Phase::OneByte(_) => false,
-        Phase::EndlessBytes(_) => false,
-        Phase::Reading => true,
-        Phase::ReadEnded => false,
-    }
+    matches!(phase, Phase::Reading)
 }
 
 // What the bus carries when the master reads: the status byte while reading after RS 0, else 255.
 pub fn read_byte(chip: Chip) -> u8
     ensures { result ≡ read_byte chip }
 {
-    let phase = chip.phase;
-    if is_reading(phase) & !chip.last_rs {
-        chip.status
-    } else {
-        255
-    }
+    Interface::of(chip).read_byte()
 }
 
 // A byte that the master does not acknowledge ends the read.
+#[tactic(auto, unfolding(crate::specs::Phases::phase_after_last_read))]
 pub fn phase_after_last_read(phase: Phase) -> Phase
     ensures { result ≡ phase_after_last_read phase }
 {
@@ -47,17 +35,14 @@ pub fn phase_after_last_read(phase: Phase) -> Phase
 pub fn pulsed(chip: Chip) -> Chip
     ensures { result ≡ pulsed chip }
 {
-    Chip::reset(chip.pins).with_pixels(chip.pixels)
+    let interface = Interface::of(chip).pulsed();
+    interface.whole(Registers::reset(), chip.pixels)
 }
 
 // A reading is taken where SM = 1 and PD = 0.
 pub fn sensed(chip: Chip, value: u8) -> Chip
     ensures { result ≡ sensed value chip }
 {
-    let registers = chip.registers;
-    let mut next = chip;
-    if (registers.sm == 1) & (registers.pd == 0) {
-        next.status = value;
-    }
-    next
+    let interface = Interface::of(chip).sensed(chip.registers, value);
+    interface.whole(chip.registers, chip.pixels)
 }

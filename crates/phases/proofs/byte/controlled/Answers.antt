@@ -1,6 +1,8 @@
+use mathlib.Core.Path.{ap, ◌∙◌}
 use Rattle.phases.specs.Changes.{controlled}
 use Rattle.phases.proofs.byte.controlled.Goals as goal
 
 pub returns : goal.returns
-unfolding controlled
-returns c = simp (c.rs_of.ensures, c.in_phase-next.ensures, c.phase_after_control.ensures)
+returns c =
+    let chip = c.args.chip in
+    c.whole.ensures ∙ c.controlled-interface.ensures chip.registers chip.pixels ∙ ap (controlled c.args.byte) c.of.ensures
