@@ -6,7 +6,7 @@
 
 mod unclear;
 
-use program_io::Input;
+use program_io::reading::Source;
 
 const USAGE: [u8; 20] = *b"wires PINS [SAMPLES]";
 
@@ -14,20 +14,15 @@ fn wrong_call(rt: &HostRuntime, fault: &[u8]) {
     program_io::wrong_call(rt, b"wires", fault, &USAGE);
 }
 
-fn capture(rt: &HostRuntime, pins: u8) {
-    let mut name = program_io::large_buffer();
-    let Input { source, named } = program_io::open_input(rt, b"wires", 2, &mut name);
-    let Some(mut source) = source else {
-        return;
-    };
-    let captured = wire_file::capture(rt, b"wires", &mut source, pins);
+fn capture(rt: &HostRuntime, source: &mut Source, title: &[u8], pins: u8) {
+    let captured = wire_file::capture(rt, b"wires", source, pins);
     if !captured.printed {
         return;
     }
     // Those of the part that was read are told where reading failed behind it, too.
     unclear::tell(rt, captured.unclear);
     if let Some(error) = captured.failed {
-        program_io::fail(rt, &name, named, error);
+        program_io::say_error(rt, title, error);
     }
 }
 
@@ -43,10 +38,11 @@ fn main(rt: HostRuntime) {
         wrong_call(&rt, b"too many arguments");
         return;
     }
-    let pins = program_io::number(&rt, 1);
-    if 3 < pins {
+    let Some(pins @ 0..=3) = program_io::number_given(&rt, 1) else {
         wrong_call(&rt, b"PINS is not 0, 1, 2 or 3");
         return;
-    }
-    capture(&rt, pins as u8);
+    };
+    program_io::with_input(&rt, b"wires", 2, |source, title| {
+        capture(&rt, source, title, pins as u8);
+    });
 }
