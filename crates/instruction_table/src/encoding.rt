@@ -18,7 +18,7 @@ const ROW_FOR: [usize; 29] = [
 pub fn is_grey(register: u8) -> bool
     ensures { result ≡ is_grey register }
 {
-    (21 <= register) & (register <= 24)
+    (21..=24).contains(&register)
 }
 
 // The row that sets the register; ROWS where none does.
@@ -36,30 +36,28 @@ fn place_of(target: u8, values: &[u8]) -> usize
     ensures { result ≡ place_of target values.now }
 {
     if target == SELECTED {
-        return 21 + (entry(values, 20) % 4) as usize;
+        return 21 + usize::from(entry(values, 20) % 4);
     }
-    target as usize
+    usize::from(target)
 }
 
 // What a part adds to the byte of a row: nothing, if it is a part of another.
 fn share(values: &[u8], row: usize, part: usize) -> u16
     ensures { result ≡ share_of values.now row part }
 {
-    if part_row(part) as usize != row {
+    if usize::from(part_row(part)) != row {
         return 0;
     }
     let place = place_of(part_target(part), values);
-    (entry(values, place) as u16) << part_low(part)
+    u16::from(entry(values, place)) << part_low(part)
 }
 
 fn byte_of(values: &[u8], row: usize) -> u16
     ensures { result ≡ byte_of values.now row }
 {
-    let mut sum = code(row) as u16;
-    let mut part = 0;
-    while part < PARTS {
+    let mut sum = u16::from(code(row));
+    for part in 0..PARTS {
         sum += share(values, row, part);
-        part += 1;
     }
     sum
 }
