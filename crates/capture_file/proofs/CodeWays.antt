@@ -148,12 +148,16 @@ module _ {m₀ w₀ m w : List ℕ} {c : Capture} {turns : ℕ} (so_far : FedSoF
   unfolding last-fed
   last-answers f e end turn is = refl
 
+  -- what was fed so far comes to the replay of it
+  pub so-far-replayed : (end : Result End Refusal) → numbered end ≡ finish_of 0 c → meaning (numbered end) m w ≡ replay_of (text_of so_far.answers) m₀ w₀
+  so-far-replayed end is = ap (λ (n : Result End ℕ). meaning n m w) is ∙ finished (Ok c) c m w (text_of so_far.answers) m₀ w₀ so_far.is-fed
+
   -- after as many calls as are made at most
   pub all-fed : (end : Result End Refusal) → numbered end ≡ finish_of 0 c → turns ≡ most_calls → ReplayOfSome (record { end = end; failed = None }) m w m₀ w₀
   all-fed end is many =
       record {
         answers = so_far.answers;
-        is_replay = ap (λ (n : Result End ℕ). meaning n m w) is ∙ finished (Ok c) c m w (text_of so_far.answers) m₀ w₀ so_far.is-fed;
+        is_replay = so-far-replayed end is;
         is_failed = so_far.none_failed;
         is_enough = no_more_calls so_far.answers (so_far.are-counted ∙ many);
       }
