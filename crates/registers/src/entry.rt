@@ -4,8 +4,5 @@ ghost use Rattle.std.specs.Prelude.{◌≡◌, get_or};
 pub fn entry(table: &[u8], i: usize) -> u8
     ensures { result ≡ get_or table.now i 0 }
 {
-    if table.len() <= i {
-        return 0;
-    }
-    table[i]
+    table.get(i).copied().unwrap_or(0)
 }

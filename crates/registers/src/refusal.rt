@@ -36,32 +36,7 @@ pub fn record(chip: Chip) -> Result<(), Refusal>
     }
 }
 
-// 1: a lent memory of another length.
-pub fn of_length(memory_len: usize) -> u8
-    ensures { result ≡ length_refusal memory_len }
-{
-    if memory_len != 1717 { 1 } else { 0 }
-}
-
-// The same of both memories: display bytes and writer numbers.
-pub fn of_lengths(memory_len: usize, writers_len: usize) -> u8
-    ensures { result ≡ lengths_refusal memory_len writers_len }
-{
-    if (memory_len != 1717) | (writers_len != 1717) {
-        1
-    } else {
-        0
-    }
-}
-
-// 2: a record that is not allowed.
-pub fn of_record(chip: Chip) -> u8
-    ensures { result ≡ record_refusal chip }
-{
-    if chip.allowed() { 0 } else { 2 }
-}
-
-// 3 is for any other event number.
+// Any other event number is refused.
 pub fn is_listed_event(event: u16) -> bool
     ensures { result ≡ is_listed_event event }
 {

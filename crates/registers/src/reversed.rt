@@ -21,7 +21,7 @@ const REVERSED: [u8; 256] = [
 pub fn reversed(byte: u8) -> u8
     ensures { result ≡ reversed_of byte }
 {
-    REVERSED[byte as usize]
+    REVERSED[usize::from(byte)]
 }
 
 // The byte in the order that DO asks for: DO = 1 swaps it.

@@ -164,8 +164,7 @@ impl Registers {
         ensures { result ≡ taken grey_level.parts byte self }
     {
         let level = byte % 64;
-        let selected = self.gr % 4;
-        match selected {
+        match self.gr % 4 {
             0 => self.gs0 = level,
             1 => self.gs1 = level,
             2 => self.gs2 = level,

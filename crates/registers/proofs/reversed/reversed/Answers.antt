@@ -3,4 +3,4 @@ use borrow.Author.Rules.{rules}
 use Rattle.registers.proofs.reversed.reversed.Goals as goal
 
 pub returns : goal.returns
-returns c = reversed-at _ (search rules)
+returns c = rw c.from.ensures (reversed-at _ (search rules))
