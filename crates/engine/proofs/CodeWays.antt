@@ -30,9 +30,9 @@ use Rattle.engine.specs.Step.{entry_refusal, refusal_of, unless_refused, step_of
 use Rattle.engine.proofs.PastEntry.{tested-at-entry, tallied-from-entry}
 
 -- what fits is what 16 does not refuse
-pub fit-number : (t : Bool) → t ≡ eqb (refuse (not t) 16) 0
-fit-number true = refl
-fit-number false = refl
+pub fit_number : (t : Bool) → t ≡ eqb (refuse (not t) 16) 0
+fit_number true = refl
+fit_number false = refl
 
 -- ---- an event that brings no content
 

@@ -2,6 +2,17 @@
 ghost use Rattle.std.specs.Prelude.{◌≡◌};
 ghost use Rattle.engine.specs.Event.{event_of};
 
+// The numbers below are the bytes from the master.
+pub const START: u16 = 256;
+
+pub const STOP: u16 = 257;
+
+pub const READ_ACKNOWLEDGED: u16 = 258;
+
+pub const READ_NOT_ACKNOWLEDGED: u16 = 259;
+
+pub const RESET: u16 = 260;
+
 #[derive(Clone, Copy, Debug, PartialEq, Eq, Hash)]
 pub enum Event {
     Byte(u8),
@@ -20,11 +31,11 @@ impl Event {
     {
         match number {
             0..=255 => Event::Byte(number as u8),
-            256 => Event::Start,
-            257 => Event::Stop,
-            258 => Event::ReadAcknowledged,
-            259 => Event::ReadNotAcknowledged,
-            260 => Event::Reset,
+            START => Event::Start,
+            STOP => Event::Stop,
+            READ_ACKNOWLEDGED => Event::ReadAcknowledged,
+            READ_NOT_ACKNOWLEDGED => Event::ReadNotAcknowledged,
+            RESET => Event::Reset,
             512..=767 => Event::Sensor((number - 512) as u8),
             _ => Event::Unlisted,
         }

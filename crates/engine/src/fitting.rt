@@ -6,15 +6,14 @@ ghost use Rattle.engine.specs.Step.{pixel_refusal};
 use registers::Chip;
 
 // A display byte may not leave it; no other event moves a count.
+#[tactic(auto, using(crate::proofs::CodeWays::fit_number), unfolding(crate::specs::Step::pixel_refusal))]
 pub fn counts_fit(event: u16, chip: Chip, memory: &[u8]) -> bool
     ensures { result ≡ eqb (pixel_refusal event chip memory.now) 0 }
 {
-    if 256 <= event {
-        return true;
+    match u8::try_from(event) {
+        Ok(byte) if chip.phase.rs() => {
+            display::pixels_fit(chip.registers, chip.pixels, memory, byte)
+        }
+        _ => true,
     }
-    let phase = chip.phase;
-    if !phase.rs() {
-        return true;
-    }
-    display::pixels_fit(chip.registers, chip.pixels, memory, event as u8)
 }

@@ -9,7 +9,7 @@ ghost use Rattle.engine.specs.Event.{event_of, is_byte};
 ghost use Rattle.engine.specs.Loop.{registers_upon};
 ghost use Rattle.engine.specs.Step.{on_byte, applied};
 
-use crate::event::Event;
+use crate::event::{Event, RESET};
 use phases::interface::Interface;
 use registers::{Phase, Registers};
 
@@ -27,38 +27,33 @@ fn on_byte(byte: u8, interface: Interface) -> Interface
     ensures { (r : Registers) (n : PixelCounts) (m w : List ℕ) (k : ℕ)
         → state (whole r result n) m w k ≡ (on_byte interface.phase byte (state (whole r interface n) m w k)).state }
 {
-    let phase = interface.phase;
-    match phase {
-        Phase::Idle => interface,
+    match interface.phase {
         Phase::AddressAwaited => on_address(byte, interface),
-        Phase::Ignoring => interface,
         Phase::ControlAwaited => interface.controlled(byte),
+        Phase::Reading | Phase::ReadEnded => interface.in_phase(Phase::Ignoring),
+        Phase::Idle | Phase::Ignoring => interface,
         // these two await content
-        Phase::OneByte(_) => interface,
-        Phase::EndlessBytes(_) => interface,
-        Phase::Reading => interface.in_phase(Phase::Ignoring),
-        Phase::ReadEnded => interface.in_phase(Phase::Ignoring),
+        Phase::OneByte(_) | Phase::EndlessBytes(_) => interface,
     }
 }
 
 // The interface after the event. The registers are those before it.
+#[tactic(auto, unfolding(crate::specs::Step::applied))]
 pub fn interface_after(event: Event, interface: Interface, registers: Registers) -> Interface
     requires { is_byte event && awaits_content interface.phase ≡ false }
     ensures { (n : PixelCounts) (m w : List ℕ) (k : ℕ)
         → state (whole (registers_upon event registers) result n) m w k ≡ (applied event (state (whole registers interface n) m w k)).state }
 {
-    let phase = interface.phase;
     match event {
         Event::Byte(byte) => on_byte(byte, interface),
         Event::Start => interface.in_phase(Phase::AddressAwaited),
         Event::Stop => interface.in_phase(Phase::Idle),
-        Event::ReadAcknowledged => interface,
         Event::ReadNotAcknowledged => {
-            interface.in_phase(phases::other::phase_after_last_read(phase))
+            interface.in_phase(phases::other::phase_after_last_read(interface.phase))
         }
         Event::Reset => interface.pulsed(),
         Event::Sensor(value) => interface.sensed(registers, value),
-        Event::Unlisted => interface,
+        Event::ReadAcknowledged | Event::Unlisted => interface,
     }
 }
 
@@ -66,8 +61,9 @@ pub fn interface_after(event: Event, interface: Interface, registers: Registers)
 pub fn registers_after(event: u16, registers: Registers) -> Registers
     ensures { result ≡ registers_upon (event_of event) registers }
 {
-    if event == 260 {
-        return Registers::reset();
+    if event == RESET {
+        Registers::reset()
+    } else {
+        registers
     }
-    registers
 }
