@@ -1,12 +1,13 @@
 use Rattle.capture.proofs.CodeWays.{part-refused, part-fed}
-use Rattle.capture.specs.Feeding.{feed_of}
+use Rattle.capture.specs.Feeding.{kept, part_refusal, feed_of}
 use native.Mathlib.Omega.{arith}
 use Rattle.capture.proofs.feed.Goals as goal
 
 pub returns-in_err-of_part : goal.returns-in_err-of_part
 unfolding feed_of
 returns-in_err-of_part c =
-    let refused = part-refused _ _ c.in_err-of_part.ensures in
+    let before = kept c.args.capture c.args.memory.now c.args.writers.now in
+    let refused = part-refused _ (part_refusal before) c.in_err-of_part.ensures in
     grind (arith, refused)
 
 pub returns : goal.returns
