@@ -7,6 +7,7 @@ use mathlib.Core.Logic.{inl, ◌↔◌}
 use mathlib.Core.Path.{◌≡◌, refl, sym, ap, ◌∙◌, subst}
 use Prim.Native.Nat.{ℕ, ◌+◌, ◌*◌}
 use native.Mathlib.Omega.{arith}
+use Rattle.std.specs.Prelude.{Result}
 use lib.ListN.{get_or}
 use Rattle.registers.specs.Record.{values}
 use Rattle.registers.specs.State.{State, places}
@@ -241,7 +242,7 @@ module _ (text text' : List ℕ) (end end' : State) (r : Replayed text zeros zer
 
 -- ---- what is printed of two captures
 
-module _ (m w n v out : List ℕ) (e f : End) where
+module _ (m w n v out : List ℕ) (e f : Result End ℕ) where
   -- of two that are replayed from zeros: that text
   pub comparison-prints :
       (text text' : List ℕ) (end end' : State) → meaning e m w ≡ replay_of text zeros zeros → meaning f n v ≡ replay_of text' zeros zeros

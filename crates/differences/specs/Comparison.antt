@@ -1,5 +1,5 @@
 -- What is printed of two captures: where the first is refused, else where the second is, else what differs at their ends.
-use Rattle.std.specs.Prelude.{List, ℕ}
+use Rattle.std.specs.Prelude.{List, ℕ, Result}
 use Rattle.registers.specs.Record.{values}
 use Rattle.registers.specs.State.{State}
 use Rattle.text.specs.Text.{bytes}
@@ -23,6 +23,6 @@ comparison_of (replayed s) (refused_at n t) out = refused_text (bytes "2\t") (re
 comparison_of (replayed s) (replayed t) out = whole_text 0 (differences_of (compared_of s) (compared_of t)) out
 
 -- 1: a memory isn't 1,717 long, whatever the captures came to
-unfoldable pub comparison_call : End → List ℕ → List ℕ → End → List ℕ → List ℕ → List ℕ → Output
+unfoldable pub comparison_call : Result End ℕ → List ℕ → List ℕ → Result End ℕ → List ℕ → List ℕ → List ℕ → Output
 comparison_call first m w second n v out =
     text_unless (differences_refusal (memories m w) (memories n v)) out (comparison_of (meaning first m w) (meaning second n v) out)

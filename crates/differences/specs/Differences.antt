@@ -1,5 +1,5 @@
 -- The comparison of two captures (document 02, W1): the cells and the registers that differ at their ends, and the text that lists them.
-use Rattle.std.specs.Prelude.{Bool, not, ◌||◌, List, [], ◌∷◌, ◌++◌, ℕ, ◌/◌, ◌%◌, eqb, length, get_or}
+use Rattle.std.specs.Prelude.{Bool, not, cond, ◌||◌, List, [], ◌∷◌, ◌++◌, ℕ, ◌/◌, ◌%◌, eqb, length, get_or}
 use Rattle.registers.specs.Record.{names}
 use Rattle.registers.specs.Refusals.{◌then◌, lengths_refusal}
 use Rattle.registers.specs.State.{places}
@@ -92,6 +92,13 @@ cell_line_at a b k = lines_of cell_line (chosen_at (cell_differs a b) (cell_pair
 
 abbrev pub register_line_at : List ℕ → List ℕ → ℕ → List ℕ
 register_line_at v w k = lines_of register_line (chosen_at (register_differs v w) (register_pair_at v w) k)
+
+-- the same, by what stands at the place at both ends, and by the register's two values
+abbrev pub line_of_cells : ℕ → ℕ → ℕ → ℕ → ℕ → List ℕ
+line_of_cells k v w m n = lines_of cell_line (cond (not (eqb v w) || not (eqb m n)) (cell_pair (k % 101) (k / 101) v w m n ∷ []) [])
+
+abbrev pub line_of_registers : ℕ → ℕ → ℕ → List ℕ
+line_of_registers k v w = lines_of register_line (cond (not (eqb v w)) (register_pair k v w ∷ []) [])
 
 -- the header also where nothing differs
 unfoldable pub differences_of : Compared → Compared → List ℕ

@@ -2,3 +2,4 @@ pub mod Differences
 pub mod Which
 pub mod Comparison
 pub mod LastWriters
+pub mod Sides

@@ -1,7 +1,7 @@
-use native.Mathlib.Omega.{arith}
-use Rattle.differences.proofs.CodeWays.{text-wrote}
+use Rattle.print.proofs.Writing.{prints_then}
+use Rattle.differences.specs.Differences.{differences_of}
 use Rattle.differences.proofs.all_lines.Goals as goal
 
 pub returns : goal.returns
-returns c =
-    text-wrote _ _ (omega (arith, c.well_formed.1.1.1.1.1.1.0)) c.bytes-after_header.ensures c.cell_lines-after_cells.ensures c.register_lines.ensures
+unfolding differences_of
+returns c = prints_then c.bytes.ensures (prints_then c.cell_lines.ensures c.register_lines.ensures)

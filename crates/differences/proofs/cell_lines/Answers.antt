@@ -1,30 +1,25 @@
+use mathlib.Core.Path.{◌≡◌, ap, ◌∙◌}
+use Prim.Native.Nat.{ℕ}
 use native.Mathlib.Omega.{arith}
-use Rattle.print.proofs.Writing.{wrote-same, wrote-next, parts-turn, parts-end}
-use Rattle.differences.specs.Differences.{memories}
+use Rattle.registers.specs.State.{places}
+use Rattle.print.specs.Printed.{parts_from}
+use Rattle.print.proofs.Writing.{prints_none, prints-part, prints-same}
+use Rattle.differences.specs.Differences.{cell_line_at}
+use Rattle.differences.specs.Sides.{side_of}
 use Rattle.differences.proofs.Lines.{cells-parts}
-use borrow.Author.Rules.{rules}
 use Rattle.differences.proofs.cell_lines.Goals as goal
 
-pub loop-k-init : goal.loop-k-init
-loop-k-init c = (
-  search rules,
-  search rules,
-  search rules,
-  λ l j w. w,
-)
+pub loop-place-init : goal.loop-place-init
+loop-place-init c = prints_none _ (omega arith)
 
-pub loop-k-preserved : goal.loop-k-preserved
-loop-k-preserved c = (
-  search rules,
-  wrote-next c.cell_at-next.ensures,
-  search rules,
-  λ l j w. c.loop-k.invariant.3 l j
-      (parts-turn _ _ _ c.loop-k-test.true (omega arith) c.cell_at-next.ensures w),
-)
+pub loop-place-preserved : goal.loop-place-preserved
+loop-place-preserved c =
+    let given = c.args in
+    prints-part (cell_line_at (side_of given.first).cells (side_of given.second).cells) c.loop-place.place c.loop-place.invariant c.cell_at.ensures
 
 pub returns : goal.returns
 returns c =
-    let args = c.args in
-    let a = memories args.first_memory.now args.first_writers.now in
-    let b = memories args.second_memory.now args.second_writers.now in
-    wrote-same (cells-parts a b) (c.loop-k.invariant.3 _ _ (parts-end _ _ _ _ _ (omega arith) c.loop-k-test.false))
+    let given = c.args in
+    let all : c.loop-place.place ≡ places = omega arith in
+    prints-same (ap (λ (k : ℕ). parts_from (cell_line_at (side_of given.first).cells (side_of given.second).cells) 0 k) all ∙ cells-parts (side_of given.first).cells (side_of given.second).cells)
+    c.loop-place.invariant

@@ -1,8 +1,9 @@
-use native.Mathlib.Omega.{arith}
-use Rattle.differences.proofs.CodeWays.{register-wrote}
+use Rattle.print.proofs.Writing.{prints_then, prints-same}
+use Rattle.differences.proofs.CodeWays.{register-fields, name-found}
 use Rattle.differences.proofs.register.Goals as goal
 
 pub returns : goal.returns
 returns c =
-    register-wrote _ _ _ (omega (arith, c.well_formed.1.1.1.0)) c.all-all.ensures c.piece.ensures c.bytes-after_name.ensures
-    c.byte-after_tab.ensures c.field-after_first.ensures c.field.ensures
+    prints-same (register-fields _ _ _)
+    (prints_then (prints-same (name-found _ _ _ c.all-all.ensures c.piece.ensures) c.bytes.ensures)
+    (prints_then c.byte.ensures (prints_then (rw c.from.ensures at c.field.ensures) (rw c.from-2.ensures at c.field-2.ensures))))

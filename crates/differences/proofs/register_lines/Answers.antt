@@ -1,28 +1,23 @@
+use mathlib.Core.Path.{◌≡◌, ap, ◌∙◌}
+use Prim.Native.Nat.{ℕ}
 use native.Mathlib.Omega.{arith}
-use Rattle.print.proofs.Writing.{wrote-same, wrote-next, parts-turn, parts-end}
+use Rattle.print.specs.Printed.{parts_from}
+use Rattle.print.proofs.Writing.{prints_none, prints-part, prints-same}
+use Rattle.differences.specs.Differences.{register_line_at}
 use Rattle.differences.proofs.Lines.{registers-parts}
-use borrow.Author.Rules.{rules}
 use Rattle.differences.proofs.register_lines.Goals as goal
 
-pub loop-k-init : goal.loop-k-init
-loop-k-init c = (
-  search rules,
-  search rules,
-  search rules,
-  λ l j w. w,
-)
+pub loop-place-init : goal.loop-place-init
+loop-place-init c = prints_none _ (omega arith)
 
-pub loop-k-preserved : goal.loop-k-preserved
-loop-k-preserved c = (
-  search rules,
-  wrote-next c.register_at-next.ensures,
-  search rules,
-  λ l j w. c.loop-k.invariant.3 l j
-      (parts-turn _ _ _ c.loop-k-test.true (omega arith) c.register_at-next.ensures w),
-)
+pub loop-place-preserved : goal.loop-place-preserved
+loop-place-preserved c =
+    let given = c.args in
+    prints-part (register_line_at given.first.registers given.second.registers) c.loop-place.place c.loop-place.invariant c.register_at.ensures
 
 pub returns : goal.returns
 returns c =
-    let args = c.args in
-    wrote-same (registers-parts args.first.now args.second.now)
-    (c.loop-k.invariant.3 _ _ (parts-end _ _ _ _ _ (omega arith) c.loop-k-test.false))
+    let given = c.args in
+    let all : c.loop-place.place ≡ 29 = omega arith in
+    prints-same (ap (λ (k : ℕ). parts_from (register_line_at given.first.registers given.second.registers) 0 k) all ∙ registers-parts given.first.registers given.second.registers)
+    c.loop-place.invariant
