@@ -1,5 +1,6 @@
 -- Ways through the code of the host's call for a bus, over plain variables.
 use mathlib.Core.Bool.{Bool, true, false, cond, ◌&&◌}
+use Rattle.std.specs.Prelude.{Option, None, Some}
 use mathlib.Core.List.{List}
 use mathlib.Core.Path.{◌≡◌, refl, sym, ap, ◌∙◌}
 use Prim.Native.Nat.{ℕ}
@@ -10,41 +11,19 @@ use Rattle.engine.specs.Answer.{Answer}
 use Rattle.engine.specs.Event.{number_of}
 use Rattle.bus.specs.Bus.{bus}
 use Rattle.bus.specs.Step.{bus_after, bus_step_of}
-use Rattle.bus_refusals.specs.declared.Chips.{Chips}
-use Rattle.bus_refusals.specs.Four.{four}
-use Rattle.record_words.specs.declared.Read.{Read}
-use Rattle.record_words.specs.declared.Read.TheVariants as words
-use Rattle.record_words.specs.Words.{stands_for, chip_of, read_of, stored}
-use Rattle.record_words.proofs.Laws.{read-record-exactly, read-none-exactly, stored-over}
-use Rattle.bus_host.specs.declared.FourRead.{FourRead}
-use Rattle.bus_host.specs.declared.FourRead.TheVariants.{Records, NoRecord}
+use Rattle.bus_refusals.specs.Four.{chip_at, four}
+use Rattle.record_words.specs.Words.{stands_for, stored}
+use Rattle.record_words.proofs.Laws.{stored-over}
 use Rattle.bus_host.specs.Buffers.{lent, four_lent, has_lengths, chips_of, four_read}
 use Rattle.bus_host.specs.BusCall.{called, no_record_for, bus_call}
 
--- ---- one record
-
-module _ (ws : List ℕ) (x : Read) (ex : x ≡ read_of ws) where
-  pub none_read : x ≡ words.NoRecord → stands_for ws ≡ false
-  none_read none = (read-none-exactly ws).0 (sym ex ∙ none)
-
-  pub record-read : (c : Chip) → x ≡ words.Record c → (stands_for ws ≡ true) × (c ≡ chip_of ws)
-  record-read c is = (read-record-exactly ws c).0 (sym ex ∙ is)
-
 -- ---- four records
 
-pub four-read :
-    (ws0 ws1 ws2 ws3 : List ℕ) (c0 c1 c2 c3 : Chip)
-    → (stands_for ws0 ≡ true) × (c0 ≡ chip_of ws0) → (stands_for ws1 ≡ true) × (c1 ≡ chip_of ws1)
-    → (stands_for ws2 ≡ true) × (c2 ≡ chip_of ws2) → (stands_for ws3 ≡ true) × (c3 ≡ chip_of ws3)
-    → Records (record { chip0 = c0; chip1 = c1; chip2 = c2; chip3 = c3 }) ≡ four_read ws0 ws1 ws2 ws3
-unfolding four_read
-four-read ws0 ws1 ws2 ws3 c0 c1 c2 c3 r0 r1 r2 r3 = rw (r0.0, r1.0, r2.0, r3.0, r0.1, r1.1, r2.1, r3.1)
-
-read_none : (t : Bool) (c : Chips) → cond t (Records c) NoRecord ≡ NoRecord → t ≡ false
+read_none : (t : Bool) (c : List Chip) → cond t (Some c) None ≡ None → t ≡ false
 read_none true c e = let z : ◌≡◌ {A = ℕ} 0 1 = cc in absurd (omega arith)
 read_none false c e = refl
 
-read_all : (t : Bool) (c d : Chips) → cond t (Records c) NoRecord ≡ Records d → (t ≡ true) × (d ≡ c)
+read_all : (t : Bool) (c d : List Chip) → cond t (Some c) None ≡ Some d → (t ≡ true) × (d ≡ c)
 read_all true c d e = (refl, cc)
 read_all false c d e = let z : ◌≡◌ {A = ℕ} 0 1 = cc in absurd (omega arith)
 
@@ -54,9 +33,9 @@ both false b h = absurd (false-true h)
 
 -- ---- the call; x is what the words gave
 
-module _ (e k n : ℕ) (ws0 m0 w0 ws1 m1 w1 ws2 m2 w2 ws3 m3 w3 : List ℕ) (x : FourRead) (ex : x ≡ four_read ws0 ws1 ws2 ws3) where
+module _ (e k n : ℕ) (ws0 m0 w0 ws1 m1 w1 ws2 m2 w2 ws3 m3 w3 : List ℕ) (x : Option (List Chip)) (ex : x ≡ four_read ws0 ws1 ws2 ws3) where
   pub call-no-record :
-      (r : ℕ) → x ≡ NoRecord
+      (r : ℕ) → x ≡ None
       → r ≡ no_record_for (has_lengths (lent ws0 m0 w0) && (has_lengths (lent ws1 m1 w1) && (has_lengths (lent ws2 m2 w2) && has_lengths (lent ws3 m3 w3))))
       → called r (four_lent ws0 m0 w0 ws1 m1 w1 ws2 m2 w2 ws3 m3 w3) n ≡ bus_call e k (four_lent ws0 m0 w0 ws1 m1 w1 ws2 m2 w2 ws3 m3 w3) n
   unfolding bus_call four_read
@@ -65,10 +44,10 @@ module _ (e k n : ℕ) (ws0 m0 w0 ws1 m1 w1 ws2 m2 w2 ws3 m3 w3 : List ℕ) (x :
       rw (and-true (stands_for ws3), none, and-true (has_lengths (lent ws3 m3 w3)), er)
 
   pub call-done :
-      (c c' : Chips) (a : Answer) (r n' : ℕ) (l0 m0' w0' l1 m1' w1' l2 m2' w2' l3 m3' w3' : List ℕ)
-      → x ≡ Records c
+      (c c' : List Chip) (a : Answer) (r n' : ℕ) (l0 m0' w0' l1 m1' w1' l2 m2' w2' l3 m3' w3' : List ℕ)
+      → x ≡ Some c
       → bus_after a (four c' m0' w0' m1' w1' m2' w2' m3' w3') n' ≡ bus_step_of e k (bus (four c m0 w0 m1 w1 m2 w2 m3 w3) n)
-      → l0 ≡ stored c'.chip0 ws0 → l1 ≡ stored c'.chip1 ws1 → l2 ≡ stored c'.chip2 ws2 → l3 ≡ stored c'.chip3 ws3
+      → l0 ≡ stored (chip_at c' 0) ws0 → l1 ≡ stored (chip_at c' 1) ws1 → l2 ≡ stored (chip_at c' 2) ws2 → l3 ≡ stored (chip_at c' 3) ws3
       → r ≡ number_of a
       → called r (four_lent l0 m0' w0' l1 m1' w1' l2 m2' w2' l3 m3' w3') n'
       ≡ bus_call e k (four_lent ws0 m0 w0 ws1 m1 w1 ws2 m2 w2 ws3 m3 w3) n
@@ -78,16 +57,16 @@ module _ (e k n : ℕ) (ws0 m0 w0 ws1 m1 w1 ws2 m2 w2 ws3 m3 w3 : List ℕ) (x :
       let s0 = both (stands_for ws0) (stands_for ws1 && (stands_for ws2 && stands_for ws3)) found.0 in
       let s1 = both (stands_for ws1) (stands_for ws2 && stands_for ws3) s0.1 in
       let s2 = both (stands_for ws2) (stands_for ws3) s1.1 in
-      let done = ea ∙ ap (λ (d : Chips). bus_step_of e k (bus (four d m0 w0 m1 w1 m2 w2 m3 w3) n)) found.1 in
+      let done = ea ∙ ap (λ (d : List Chip). bus_step_of e k (bus (four d m0 w0 m1 w1 m2 w2 m3 w3) n)) found.1 in
       rw (
         s0.0,
         s1.0,
         s2.0,
         s2.1,
         ← done,
-        e0 ∙ stored-over ws0 c'.chip0 s0.0,
-        e1 ∙ stored-over ws1 c'.chip1 s1.0,
-        e2 ∙ stored-over ws2 c'.chip2 s2.0,
-        e3 ∙ stored-over ws3 c'.chip3 s2.1,
+        e0 ∙ stored-over ws0 (chip_at c' 0) s0.0,
+        e1 ∙ stored-over ws1 (chip_at c' 1) s1.0,
+        e2 ∙ stored-over ws2 (chip_at c' 2) s2.0,
+        e3 ∙ stored-over ws3 (chip_at c' 3) s2.1,
         er,
       )

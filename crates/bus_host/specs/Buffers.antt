@@ -1,11 +1,9 @@
 -- What a host in C lends for each chip of its bus, and four records read at once.
-use Rattle.std.specs.Prelude.{Bool, true, cond, ◌&&◌, List, [], ◌∷◌, ℕ, ◌+◌, eqb, length}
+use Rattle.std.specs.Prelude.{Bool, true, cond, ◌&&◌, Option, None, Some, List, [], ◌∷◌, ℕ, ◌+◌, eqb, length}
 use Rattle.registers.specs.State.{places}
 use Rattle.bus.specs.Bus.{Device, device}
-use Rattle.bus_refusals.specs.declared.Chips.{Chips}
+use Rattle.registers.specs.declared.Chip.{Chip}
 use Rattle.record_words.specs.Words.{stands_for, chip_of, words_of}
-use Rattle.bus_host.specs.declared.FourRead.{FourRead}
-use Rattle.bus_host.specs.declared.FourRead.TheVariants.{Records, NoRecord}
 
 -- a record's words, display bytes and writer numbers
 pub record Lent : Type 0 where
@@ -45,9 +43,9 @@ how_many_lent f (l ∷ ls) = cond (f l) 1 0 + how_many_lent f ls
 
 -- ---- four records
 
-abbrev pub chips_of : List ℕ → List ℕ → List ℕ → List ℕ → Chips
-chips_of ws0 ws1 ws2 ws3 = record { chip0 = chip_of ws0; chip1 = chip_of ws1; chip2 = chip_of ws2; chip3 = chip_of ws3 }
+abbrev pub chips_of : List ℕ → List ℕ → List ℕ → List ℕ → List Chip
+chips_of ws0 ws1 ws2 ws3 = chip_of ws0 ∷ chip_of ws1 ∷ chip_of ws2 ∷ chip_of ws3 ∷ []
 
-unfoldable pub four_read : List ℕ → List ℕ → List ℕ → List ℕ → FourRead
+unfoldable pub four_read : List ℕ → List ℕ → List ℕ → List ℕ → Option (List Chip)
 four_read ws0 ws1 ws2 ws3 =
-    cond (stands_for ws0 && (stands_for ws1 && (stands_for ws2 && stands_for ws3))) (Records (chips_of ws0 ws1 ws2 ws3)) NoRecord
+    cond (stands_for ws0 && (stands_for ws1 && (stands_for ws2 && stands_for ws3))) (Some (chips_of ws0 ws1 ws2 ws3)) None

@@ -2,68 +2,57 @@
 #![tactic(auto)]
 
 ghost use Rattle.std.specs.Prelude.{◌&&◌, ◌≡◌, eqb};
+ghost use Rattle.refusals.specs.Numbers.{number};
 ghost use Rattle.registers.specs.State.{places};
 ghost use Rattle.record_words.specs.Words.{stored};
+ghost use Rattle.bus_refusals.specs.Four.{chip_at};
 ghost use Rattle.bus_host.specs.Buffers.{four_read};
 ghost use Rattle.bus_host.specs.BusCall.{no_record_for};
 
-use bus_refusals::{Chips, is_long};
-use record_words::{Read, read_record, write_record};
+use bus_refusals::is_long;
+use record_words::{read_record, write_record};
+use refusals::Refusal;
+use registers::Chip;
 
 // Four records, or none where the words of one stand for none.
-#[derive(Clone, Copy)]
-pub enum FourRead {
-    Records(Chips),
-    NoRecord,
-}
-
-pub fn read_four(record0: &[u64], record1: &[u64], record2: &[u64], record3: &[u64]) -> FourRead
+#[tactic(auto, unfolding(crate::specs::Buffers::four_read, record_words::specs::Words::read_of))]
+pub fn read_four(
+    record0: &[u64],
+    record1: &[u64],
+    record2: &[u64],
+    record3: &[u64],
+) -> Option<[Chip; 4]>
     ensures { result ≡ four_read record0.now record1.now record2.now record3.now }
 {
-    let found0 = read_record(record0);
-    let Read::Record(chip0) = found0 else {
-        return FourRead::NoRecord;
-    };
-    let found1 = read_record(record1);
-    let Read::Record(chip1) = found1 else {
-        return FourRead::NoRecord;
-    };
-    let found2 = read_record(record2);
-    let Read::Record(chip2) = found2 else {
-        return FourRead::NoRecord;
-    };
-    let found3 = read_record(record3);
-    let Read::Record(chip3) = found3 else {
-        return FourRead::NoRecord;
-    };
-    FourRead::Records(Chips {
-        chip0,
-        chip1,
-        chip2,
-        chip3,
-    })
+    Some([
+        read_record(record0)?,
+        read_record(record1)?,
+        read_record(record2)?,
+        read_record(record3)?,
+    ])
 }
 
 // Writes each record's words into its buffer.
 pub fn write_four(
-    chips: Chips,
+    chips: [Chip; 4],
     record0: &mut [u64],
     record1: &mut [u64],
     record2: &mut [u64],
     record3: &mut [u64],
 )
-    ensures record0_after { record0.new ≡ stored chips.chip0 record0.old }
-    ensures record1_after { record1.new ≡ stored chips.chip1 record1.old }
-    ensures record2_after { record2.new ≡ stored chips.chip2 record2.old }
-    ensures record3_after { record3.new ≡ stored chips.chip3 record3.old }
+    ensures record0_after { record0.new ≡ stored (chip_at chips 0) record0.old }
+    ensures record1_after { record1.new ≡ stored (chip_at chips 1) record1.old }
+    ensures record2_after { record2.new ≡ stored (chip_at chips 2) record2.old }
+    ensures record3_after { record3.new ≡ stored (chip_at chips 3) record3.old }
 {
-    write_record(chips.chip0, record0);
-    write_record(chips.chip1, record1);
-    write_record(chips.chip2, record2);
-    write_record(chips.chip3, record3);
+    let [chip0, chip1, chip2, chip3] = chips;
+    write_record(chip0, record0);
+    write_record(chip1, record1);
+    write_record(chip2, record2);
+    write_record(chip3, record3);
 }
 
-// Why words that stand for no record are refused: 1 comes first.
+// Why words that stand for no record are refused: another length of a memory comes first.
 pub fn no_record(
     memory0_len: usize,
     writers0_len: usize,
@@ -73,8 +62,8 @@ pub fn no_record(
     writers2_len: usize,
     memory3_len: usize,
     writers3_len: usize,
-) -> u64
-    ensures { result ≡ no_record_for ((eqb memory0_len places && eqb writers0_len places)
+) -> Refusal
+    ensures { number result ≡ no_record_for ((eqb memory0_len places && eqb writers0_len places)
         && ((eqb memory1_len places && eqb writers1_len places)
         && ((eqb memory2_len places && eqb writers2_len places)
         && (eqb memory3_len places && eqb writers3_len places)))) }
@@ -82,5 +71,9 @@ pub fn no_record(
     let long = is_long(memory0_len, writers0_len)
         & (is_long(memory1_len, writers1_len)
             & (is_long(memory2_len, writers2_len) & is_long(memory3_len, writers3_len)));
-    if long { 2 } else { 1 }
+    if long {
+        Refusal::Record
+    } else {
+        Refusal::MemoryLength
+    }
 }

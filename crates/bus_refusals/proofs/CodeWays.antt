@@ -1,41 +1,59 @@
 -- Steps through the code of the refusals, over plain variables.
-use mathlib.Core.Bool.{Bool, not, ◌&&◌, ◌||◌}
-use mathlib.Core.List.{[], ◌∷◌}
-use mathlib.Core.Path.{◌≡◌, ap, ◌∙◌}
-use Prim.Native.Nat.{ℕ, ◌-◌, ◌^◌}
-use native.Mathlib.Nat.{add-zero}
-use borrow.Author.Tests.{eqb-false}
-use lib.Dec.{eqb, leb, ltb}
-use Rattle.registers.specs.Refusals.{refuse, ◌then◌, is_listed_event}
+use mathlib.Core.Bool.{Bool, true, false, cond, ◌&&◌}
+use mathlib.Core.List.{List, [], ◌∷◌}
+use mathlib.Core.Path.{◌≡◌, refl, sym, ap, ◌∙◌}
+use Prim.Native.Nat.{ℕ, suc, ◌+◌, ◌-◌, ◌≤◌}
+use lib.ListN.{length, take, drop}
+use Rattle.registers.specs.Refusals.{◌then◌}
 use Rattle.registers.proofs.Below.{and-true}
-use Rattle.registers.proofs.Refusals.{then-zero, refuse-none}
-use Rattle.bus.specs.Bus.{Device, bus, every, is_idle_phase, is_awaiting_phase, is_past_phase, phases_agree}
-use Rattle.bus.specs.Refusals.{is_long, devices_refusal_for, devices_refusal, is_sensor_reading, sent_refusal, counts_fit, pixels_refusal_for, bus_refusal}
-use Rattle.bus_refusals.specs.declared.Chips.{Chips}
-use Rattle.bus_refusals.specs.Four.{records_of, is_in_message, all_of_four, many_of_four}
+use Rattle.bus.specs.Bus.{Device, device, bus, every, how_many, has_other_pins, pins_differ}
+use Rattle.bus.specs.Refusals.{is_long, devices_refusal_for, devices_refusal, sent_refusal, counts_fit, pixels_refusal_for, bus_refusal}
+use Rattle.registers.specs.declared.Chip.{Chip}
+use Rattle.std.proofs.lemmas.List.{take_all}
+use Rattle.std.proofs.lemmas.List.Recursion.{is_count_by}
+use native.Mathlib.Omega.{arith}
+use Rattle.std.specs.List.{list_all, count_by}
+use Rattle.bus_refusals.specs.Four.{chip_at, four, records_of}
 
--- ---- which chips can share a bus
+-- ---- tests of records
 
-pub phases-told :
-    (c : Chips) (idle awaiting past : Bool)
-    → idle ≡ all_of_four is_idle_phase c.chip0.phase c.chip1.phase c.chip2.phase c.chip3.phase
-    → awaiting ≡ all_of_four is_awaiting_phase c.chip0.phase c.chip1.phase c.chip2.phase c.chip3.phase
-    → past ≡ all_of_four is_in_message c.chip0.phase c.chip1.phase c.chip2.phase c.chip3.phase
-    && leb (many_of_four is_past_phase c.chip0.phase c.chip1.phase c.chip2.phase c.chip3.phase) 1
-    → idle || (awaiting || past) ≡ phases_agree (records_of c)
-phases-told c idle awaiting past i w p = simp (i, w, p, and-true, add-zero)
+-- a chip with no memories
+abbrev record_alone : Chip → Device
+record_alone c = device c [] []
+
+pub every-told : (f : Device → Bool) (cs : List Chip) → list_all (λ (c : Chip). f (record_alone c)) cs ≡ every f (records_of cs)
+every-told f [] = refl
+every-told f (c ∷ cs) = ap (λ (t : Bool). f (record_alone c) && t) (every-told f cs)
+
+pub how-many-told : (f : Device → Bool) (cs : List Chip) → count_by (λ (c : Chip). f (record_alone c)) cs ≡ how_many f (records_of cs)
+how-many-told f cs = sym (is_count_by (λ l. how_many f (records_of l)) (λ c. f (record_alone c)) refl (λ c l. one_more (f (record_alone c)) _) cs)
+  where
+    one_more : (t : Bool) (n : ℕ) → cond t 1 0 + n ≡ cond t (1 + n) n
+    one_more true n = refl
+    one_more false n = omega arith
+
+-- the first record's pins against those of the others, then the others
+pub differ-told :
+    (cs os : List Chip) (a b : Bool) → 1 ≤ length cs → os ≡ take (length cs - 1) (drop 1 cs)
+    → a ≡ list_all (λ (c : Chip). has_other_pins (chip_at cs 0).pins (record_alone c)) os → b ≡ pins_differ (records_of os)
+    → a && b ≡ pins_differ (records_of cs)
+differ-told [] os a b l eo ea eb = absurd (omega (arith, l))
+differ-told (c ∷ cs) os a b l eo ea eb =
+    let others : os ≡ cs = eo ∙ take_all (suc (length cs) - 1) cs (omega arith) in
+    rw (ea ∙ every-told (has_other_pins c.pins) os, eb, others)
 
 -- ---- the refusals in their order
 
-pub then-told : (r x y first later : ℕ) → r ≡ x then y → x ≡ first → y ≡ later → r ≡ first then later
-then-told r x y first later told e f = told ∙ rw (e, f)
-
-pub room : (e k n : ℕ) → sent_refusal e k n ≡ 0 → n ≡ 2 ^ 64 - 1 → ⊥
-unfolding sent_refusal
-room e k n none =
-    let sent =
-    (then-zero (refuse (not (is_listed_event e)) 3) (refuse (is_sensor_reading e && ltb 3 k) 13 then refuse (eqb n (2 ^ 64 - 1)) 4) none).1 in
-    eqb-false n (2 ^ 64 - 1) (refuse-none _ 3 (then-zero (refuse (is_sensor_reading e && ltb 3 k) 13) _ sent).1)
+-- the tests of four records do not look at the memories
+pub records-told :
+    (t : Bool) (cs : List Chip) (m0 w0 m1 w1 m2 w2 m3 w3 : List ℕ) → length cs ≡ 4
+    → devices_refusal_for t (records_of cs) ≡ devices_refusal_for t (four cs m0 w0 m1 w1 m2 w2 m3 w3)
+records-told t [] m0 w0 m1 w1 m2 w2 m3 w3 e = absurd (omega (arith, e))
+records-told t (a ∷ []) m0 w0 m1 w1 m2 w2 m3 w3 e = absurd (omega (arith, e))
+records-told t (a ∷ b ∷ []) m0 w0 m1 w1 m2 w2 m3 w3 e = absurd (omega (arith, e))
+records-told t (a ∷ b ∷ c ∷ []) m0 w0 m1 w1 m2 w2 m3 w3 e = absurd (omega (arith, e))
+records-told t (a ∷ b ∷ c ∷ d ∷ []) m0 w0 m1 w1 m2 w2 m3 w3 e = refl
+records-told t (a ∷ b ∷ c ∷ d ∷ x ∷ l) m0 w0 m1 w1 m2 w2 m3 w3 e = absurd (omega (arith, e))
 
 -- what the code found of four chips: whether the memories are long, and whether the counts fit
 pub refusal-told :

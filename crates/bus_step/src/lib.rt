@@ -7,8 +7,8 @@ ghost use Rattle.bus.specs.Step.{bus_after, bus_step_of};
 ghost use Rattle.bus_refusals.specs.Four.{four};
 ghost use Rattle.bus_step.specs.Part.{device_by, answer_by};
 
-use bus_refusals::Chips;
 use engine::answer::Answer;
+use registers::Chip;
 
 mod device;
 
@@ -16,14 +16,14 @@ mod device;
 #[derive(Clone, Copy)]
 struct Delivered {
     pub answer: Answer,
-    pub chips: Chips,
+    pub chips: [Chip; 4],
 }
 
 // The answer to an event, and the chips and the count after it.
 #[derive(Clone, Copy)]
 pub struct BusStepped {
     pub answer: Answer,
-    pub chips: Chips,
+    pub chips: [Chip; 4],
     pub count: u64,
 }
 
@@ -32,7 +32,7 @@ fn deliver(
     event: u16,
     pins: u64,
     count: u64,
-    chips: Chips,
+    chips: [Chip; 4],
     memory0: &mut [u8],
     writers0: &mut [u64],
     memory1: &mut [u8],
@@ -50,26 +50,16 @@ fn deliver(
         ≡ answer_by event pins count (four chips memory0.old writers0.old memory1.old writers1.old
         memory2.old writers2.old memory3.old writers3.old) }
 {
-    let heard0 = device::hear(event, pins, count, chips.chip0, memory0, writers0);
-    let heard1 = device::hear(event, pins, count, chips.chip1, memory1, writers1);
-    let heard2 = device::hear(event, pins, count, chips.chip2, memory2, writers2);
-    let heard3 = device::hear(event, pins, count, chips.chip3, memory3, writers3);
-    let answer0 = heard0.answer;
-    let answer1 = heard1.answer;
-    let answer2 = heard2.answer;
-    let answer3 = heard3.answer;
-    let chip0 = heard0.chip;
-    let chip1 = heard1.chip;
-    let chip2 = heard2.chip;
-    let chip3 = heard3.chip;
+    let heard0 = device::hear(event, pins, count, chips[0], memory0, writers0);
+    let heard1 = device::hear(event, pins, count, chips[1], memory1, writers1);
+    let heard2 = device::hear(event, pins, count, chips[2], memory2, writers2);
+    let heard3 = device::hear(event, pins, count, chips[3], memory3, writers3);
     Delivered {
-        answer: bus_answers::of_four(event, answer0, answer1, answer2, answer3),
-        chips: Chips {
-            chip0,
-            chip1,
-            chip2,
-            chip3,
-        },
+        answer: bus_answers::of_four(
+            event,
+            [heard0.answer, heard1.answer, heard2.answer, heard3.answer],
+        ),
+        chips: [heard0.chip, heard1.chip, heard2.chip, heard3.chip],
     }
 }
 
@@ -77,7 +67,7 @@ fn deliver(
 pub fn step(
     event: u16,
     pins: u64,
-    chips: Chips,
+    chips: [Chip; 4],
     count: u64,
     memory0: &mut [u8],
     writers0: &mut [u64],
