@@ -2,59 +2,51 @@
 #![tactic(auto)]
 
 ghost use Rattle.std.specs.Prelude.{◌≡◌};
+ghost use Rattle.engine.specs.Answer.{given, told};
 ghost use Rattle.engine.specs.Event.{event_of};
 ghost use Rattle.bus.specs.Step.{or_else, unanswered};
 
 use engine::answer::Answer;
 use engine::event::Event;
+use refusals::Refusal;
 
 // Where no chip answers: a byte is not acknowledged, a read finds the line high.
 fn unanswered(event: Event) -> Answer
-    ensures { result ≡ unanswered event }
+    ensures { given result ≡ unanswered event }
 {
     match event {
         Event::Byte(_) => Answer::NotAcknowledged,
-        Event::Start => Answer::Nothing,
-        Event::Stop => Answer::Nothing,
-        Event::ReadAcknowledged => Answer::Read(255),
-        Event::ReadNotAcknowledged => Answer::Read(255),
-        Event::Reset => Answer::Nothing,
-        Event::Sensor(_) => Answer::Nothing,
-        Event::Unlisted => Answer::Nothing,
+        Event::ReadAcknowledged | Event::ReadNotAcknowledged => Answer::Read(255),
+        Event::Start | Event::Stop | Event::Reset | Event::Sensor(_) | Event::Unlisted => {
+            Answer::Nothing
+        }
     }
 }
 
 // A chip's answer, or what else is heard where it has none.
-fn or_else(answer: Answer, other: Answer) -> Answer
-    ensures { result ≡ or_else answer other }
+fn or_else(
+    answer: Result<Answer, Refusal>,
+    other: Result<Answer, Refusal>,
+) -> Result<Answer, Refusal>
+    ensures { told result ≡ or_else (told answer) (told other) }
 {
     match answer {
-        Answer::Refused(n) => Answer::Refused(n),
-        Answer::Nothing => other,
-        Answer::Acknowledged => Answer::Acknowledged,
-        Answer::NotAcknowledged => other,
-        Answer::Command(command) => Answer::Command(command),
-        Answer::Read(byte) => {
-            if byte == 255 {
-                other
-            } else {
-                Answer::Read(byte)
-            }
-        }
+        Ok(Answer::Nothing | Answer::NotAcknowledged | Answer::Read(255)) => other,
+        _ => answer,
     }
 }
 
 // The four chips' answers as one.
 pub fn of_four(
     event: u16,
-    answer0: Answer,
-    answer1: Answer,
-    answer2: Answer,
-    answer3: Answer,
-) -> Answer
-    ensures { result ≡ or_else answer0 (or_else answer1 (or_else answer2 (or_else answer3 (unanswered (event_of event))))) }
+    answer0: Result<Answer, Refusal>,
+    answer1: Result<Answer, Refusal>,
+    answer2: Result<Answer, Refusal>,
+    answer3: Result<Answer, Refusal>,
+) -> Result<Answer, Refusal>
+    ensures { told result ≡ or_else (told answer0) (or_else (told answer1) (or_else (told answer2) (or_else (told answer3) (unanswered (event_of event))))) }
 {
-    let other = unanswered(Event::of(event));
+    let other = Ok(unanswered(Event::of(event)));
     or_else(
         answer0,
         or_else(answer1, or_else(answer2, or_else(answer3, other))),

@@ -8,10 +8,10 @@ use Rattle.commands.specs.declared.answer.CommandAnswer.TheVariants.{Unknown, Ou
 use Rattle.engine.specs.Answer.{Answer, Refused, Nothing}
 use Rattle.engine.specs.Event.{event_of}
 use Rattle.engine.specs.Loop.{answer_of, commanded_by, command_answered}
-use Rattle.engine.specs.PastEntry.{step_past_entry, run_past_entry, tally_past_entry}
+use Rattle.engine.specs.PastEntry.{step_past_entry, run_past_entry, tally_past_entry, answer_unless}
 use Rattle.engine.specs.Run.{outcome}
 use Rattle.engine.specs.Step.{After}
-use Rattle.engine.proofs.CodeWays.{single-refused, single-accepted, step_past}
+use Rattle.engine.proofs.CodeWays.{told-past}
 use Rattle.engine.proofs.PastEntry.{same_step}
 use Rattle.engine.proofs.Refusals.{accepts}
 use Rattle.bus.specs.Bus.{Device, Bus, bus, At, alone, has_other_pins}
@@ -34,14 +34,12 @@ module _ (e k n : ℕ) (d : Device) (t : Bool) (told : t ≡ is_sensor_reading e
   heard a h q = let m : misses e k d ≡ false = ap (λ (x : Bool). x && has_other_pins k d) (sym told) ∙ h in ap part_in q ∙ rw m
 
   -- a run over the one event has come to this
-  module _ (s : State) (m r : ℕ) (h : t && has_other_pins k d ≡ false) (is : outcome m r s ≡ run_past_entry 0 (e ∷ []) (alone n d)) where
-    pub heard-refused : (r ≡ 0 → ⊥) → part_in (record { answer = Refused r; state = s }) ≡ part_of e k n d
-    heard-refused z = heard _ h (single-refused true e (alone n d) s m r is z ∙ step_past e (alone n d))
-
-    pub heard-accepted :
-        (u o : ℕ) (a : Answer) → r ≡ 0 → u ≡ tally_past_entry Unknown (e ∷ []) (alone n d) → o ≡ tally_past_entry OutOfRange (e ∷ []) (alone n d)
-        → a ≡ commanded_by (command_answered u o) (answer_of (event_of e) d.chip) → part_in (record { answer = a; state = s }) ≡ part_of e k n d
-    heard-accepted u o a z eu eo ea = heard _ h (single-accepted true e (alone n d) s m r is u o a z eu eo ea ∙ step_past e (alone n d))
+  pub heard-told :
+      (s : State) (m r u o : ℕ) (a : Answer) → t && has_other_pins k d ≡ false → outcome m r s ≡ run_past_entry 0 (e ∷ []) (alone n d)
+      → u ≡ tally_past_entry Unknown (e ∷ []) (alone n d) → o ≡ tally_past_entry OutOfRange (e ∷ []) (alone n d)
+      → a ≡ answer_unless r (commanded_by (command_answered u o) (answer_of (event_of e) d.chip))
+      → part_in (record { answer = a; state = s }) ≡ part_of e k n d
+  heard-told s m r u o a h is eu eo ea = heard _ h (told-past e (alone n d) s m r u o a is eu eo ea)
 
 -- ---- the four
 

@@ -1,15 +1,17 @@
 // One chip's part in an event of the bus.
 ghost use Rattle.std.specs.Prelude.{◌≡◌};
+ghost use Rattle.engine.specs.Answer.{told};
 ghost use Rattle.bus.specs.Bus.{device};
 ghost use Rattle.bus_step.specs.Part.{part, part_of};
 
 use engine::answer::Answer;
+use refusals::Refusal;
 use registers::Chip;
 
 // The chip's answer, and the chip after the event.
 #[derive(Clone, Copy)]
 pub struct Heard {
-    pub answer: Answer,
+    pub answer: Result<Answer, Refusal>,
     pub chip: Chip,
 }
 
@@ -25,27 +27,19 @@ pub fn hear(
     memory: &mut [u8],
     writers: &mut [u64],
 ) -> Heard
-    ensures { part result.answer (device result.chip memory.new writers.new)
+    ensures { part (told result.answer) (device result.chip memory.new writers.new)
         ≡ part_of event pins count (device chip memory.old writers.old) }
 {
-    let own_pins = chip.pins as u64;
+    let own_pins = u64::from(chip.pins);
     if bus_refusals::is_sensor_reading(event) & (own_pins != pins) {
         return Heard {
-            answer: Answer::Nothing,
+            answer: Ok(Answer::Nothing),
             chip,
         };
     }
-    let events = [event];
-    let ran = engine::past_entry::run(chip, count, memory, writers, &events);
-    let after = ran.chip;
-    if ran.refusal != 0 {
-        return Heard {
-            answer: Answer::Refused(ran.refusal),
-            chip: after,
-        };
-    }
+    let ran = engine::past_entry::run(chip, count, memory, writers, &[event]);
     Heard {
-        answer: engine::answering::to_event(event, chip, ran.unknown, ran.out_of_range),
-        chip: after,
+        answer: ran.answer(event, chip),
+        chip: ran.chip,
     }
 }

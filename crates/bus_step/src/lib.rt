@@ -2,12 +2,14 @@
 #![tactic(auto)]
 
 ghost use Rattle.std.specs.Prelude.{◌≡◌, map};
+ghost use Rattle.engine.specs.Answer.{told};
 ghost use Rattle.bus.specs.Bus.{bus};
 ghost use Rattle.bus.specs.Step.{bus_after, bus_step_of};
 ghost use Rattle.bus_refusals.specs.Four.{four};
 ghost use Rattle.bus_step.specs.Part.{device_by, answer_by};
 
 use engine::answer::Answer;
+use refusals::Refusal;
 use registers::Chip;
 
 mod device;
@@ -15,14 +17,14 @@ mod device;
 // What the bus answers, and the chips after the event.
 #[derive(Clone, Copy)]
 struct Delivered {
-    pub answer: Answer,
+    pub answer: Result<Answer, Refusal>,
     pub chips: [Chip; 4],
 }
 
 // The answer to an event, and the chips and the count after it.
 #[derive(Clone, Copy)]
 pub struct BusStepped {
-    pub answer: Answer,
+    pub answer: Result<Answer, Refusal>,
     pub chips: [Chip; 4],
     pub count: u64,
 }
@@ -46,7 +48,7 @@ fn deliver(
         memory2.new writers2.new memory3.new writers3.new
         ≡ map (device_by event pins count) (four chips memory0.old writers0.old memory1.old writers1.old
         memory2.old writers2.old memory3.old writers3.old) }
-    ensures answer_value { result.answer
+    ensures answer_value { told result.answer
         ≡ answer_by event pins count (four chips memory0.old writers0.old memory1.old writers1.old
         memory2.old writers2.old memory3.old writers3.old) }
 {
@@ -57,7 +59,10 @@ fn deliver(
     Delivered {
         answer: bus_answers::of_four(
             event,
-            [heard0.answer, heard1.answer, heard2.answer, heard3.answer],
+            heard0.answer,
+            heard1.answer,
+            heard2.answer,
+            heard3.answer,
         ),
         chips: [heard0.chip, heard1.chip, heard2.chip, heard3.chip],
     }
@@ -78,32 +83,29 @@ pub fn step(
     memory3: &mut [u8],
     writers3: &mut [u64],
 ) -> BusStepped
-    ensures { bus_after result.answer (four result.chips memory0.new writers0.new memory1.new writers1.new
+    ensures { bus_after (told result.answer) (four result.chips memory0.new writers0.new memory1.new writers1.new
         memory2.new writers2.new memory3.new writers3.new) result.count
         ≡ bus_step_of event pins (bus (four chips memory0.old writers0.old memory1.old writers1.old
         memory2.old writers2.old memory3.old writers3.old) count) }
 {
-    let refused = bus_refusals::of_step(
+    if let Err(refusal) = bus_refusals::of_step(
         event, pins, chips, count, memory0, writers0, memory1, writers1, memory2, writers2,
         memory3, writers3,
-    );
-    if refused != 0 {
+    ) {
         return BusStepped {
-            answer: Answer::Refused(refused),
+            answer: Err(refusal),
             chips,
             count,
         };
     }
-    let number = count + 1;
     let delivered = deliver(
         event, pins, count, chips, memory0, writers0, memory1, writers1, memory2, writers2,
         memory3, writers3,
     );
-    let answer = delivered.answer;
     let chips = delivered.chips;
     BusStepped {
-        answer,
+        answer: delivered.answer,
         chips,
-        count: number,
+        count: count + 1,
     }
 }

@@ -1,13 +1,14 @@
+use mathlib.Core.Path.{sym, ap, ◌∙◌}
 use native.Mathlib.Omega.{arith}
+use Rattle.refusals.specs.Numbers.{refused_by}
+use Rattle.refusals.proofs.Positive.{positive}
 use Rattle.bus_step.proofs.CodeWays.{step-refused, step-accepted}
 use Rattle.bus_step.proofs.step.Goals as goal
 
-pub returns-then-refused-ne0 : goal.returns-then-refused-ne0
-returns-then-refused-ne0 c = step-refused _ _ _ _ _ _ _ _ c.of_step-refused.ensures.value c.if-refused-ne0.true
-
-pub overflow_add-number : goal.overflow_add-number
-overflow_add-number c = omega (arith, c.of_step-refused.ensures.count_bound c.if-refused-ne0.false)
+pub returns-in-Err : goal.returns-in-Err
+returns-in-Err c =
+    step-refused _ _ _ _ _ _ _ _ (ap refused_by (sym c.in-Err.is) ∙ c.of_step.ensures.value) (λ z. omega (arith, positive c.in-Err.refusal, z))
 
 pub returns : goal.returns
 returns c =
-    step-accepted _ _ _ _ _ _ _ _ c.of_step-refused.ensures.value _ _ c.if-refused-ne0.false c.deliver-delivered.ensures.writers3_after c.deliver-delivered.ensures.answer_value
+    step-accepted _ _ _ _ _ _ _ _ c.of_step.ensures.value _ _ (ap refused_by c.in_default.is) c.deliver-delivered.ensures.writers3_after c.deliver-delivered.ensures.answer_value
