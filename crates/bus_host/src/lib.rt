@@ -15,6 +15,7 @@ use refusals::Refusal;
 use registers::Chip;
 
 // Four records, or none where the words of one stand for none.
+// kept (C interface): a host lends each buffer by itself
 #[tactic(auto, unfolding(crate::specs::Buffers::four_read, record_words::specs::Words::read_of))]
 pub fn read_four(
     record0: &[u64],

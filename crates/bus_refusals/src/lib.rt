@@ -116,6 +116,7 @@ fn all_fit(
 }
 
 // The refusal of an event, from the records and the memories; where there is none, the event can be counted.
+// kept (C interface): a host lends each buffer by itself
 pub fn of_step(
     event: u16,
     pins: u64,

@@ -69,6 +69,7 @@ fn deliver(
 }
 
 // One event: refused with the same records, memories and count, or accepted. The pins are those that a sensor reading names.
+// kept (C interface): a host lends each buffer by itself
 pub fn step(
     event: u16,
     pins: u64,

@@ -26,7 +26,6 @@ pub use Rattle.compiler.specs.declared.answer.Numbers.{Numbers}
 pub use Rattle.compiler.specs.Compile.{Result, numbers_of, lines_of}
 pub use Rattle.capture.specs.Replay.{Replay, refused_by, refused_at, replayed}
 pub use Rattle.glass.specs.declared.answer.Shown.{Shown}
-pub use Rattle.glass.specs.declared.answer.Cell.{Cell}
 pub use Rattle.glass.specs.Answer.{shown_number, cell_number}
 pub use Rattle.glass.specs.Pixel.{Pixel, dark, undriven, uses}
 pub use Rattle.glass.specs.When.{pixel_on}

@@ -1,6 +1,6 @@
 -- Wrong glasses: what a chosen chip and memory show, and what a wrong glass would show of them.
-use Rattle.std.specs.Prelude.{List, [], ◌∷◌, ◌++◌, ℕ, ◌+◌}
-use Rattle.cases_proved.specs.Cited.{PD, D, E, MX, MY, PS, X, DP, GS0, GS1, GS2, GS3, DOF, Chip, Shown, Cell, shown_number, cell_number, glass_of, cell_of, replicate}
+use Rattle.std.specs.Prelude.{Result, List, [], ◌∷◌, ◌++◌, ℕ, ◌+◌}
+use Rattle.cases_proved.specs.Cited.{PD, D, E, MX, MY, PS, X, DP, GS0, GS1, GS2, GS3, DOF, Chip, Shown, shown_number, cell_number, glass_of, cell_of, replicate}
 use Rattle.cases_proved.specs.Observed.{Observation, ◌gives◌not◌}
 use Rattle.cases_proved.specs.Start.{Setting, ◌is◌, one_cell, viewed}
 
@@ -8,8 +8,8 @@ use Rattle.cases_proved.specs.Start.{Setting, ◌is◌, one_cell, viewed}
 
 -- what a row and column show, and at which place of the memories that stands
 pub record Glass : Type 0 where
-  pub shows : Chip → List ℕ → ℕ → ℕ → Shown
-  pub stands : Chip → ℕ → ℕ → Cell
+  pub shows : Chip → List ℕ → ℕ → ℕ → Result Shown ℕ
+  pub stands : Chip → ℕ → ℕ → Result ℕ ℕ
 
 unfoldable pub glass : Glass
 glass = record { shows = glass_of; stands = cell_of }

@@ -1,5 +1,5 @@
 -- Wrong pulses: what a chosen pixel and row get, and what a wrong program would give them.
-use Rattle.std.specs.Prelude.{List, [], ◌∷◌, ◌++◌, ℕ, ◌+◌, ◌*◌, ◌^◌}
+use Rattle.std.specs.Prelude.{Result, List, [], ◌∷◌, ◌++◌, ℕ, ◌+◌, ◌*◌, ◌^◌}
 use Rattle.cases_proved.specs.Cited.{Chip, GS3, X, MY, PD, DOF, Pulses, pulses_number, pulses_of, PulseRow, row_of, replicate, get_or}
 use Rattle.cases_proved.specs.Observed.{Observation, ◌gives◌not◌}
 use Rattle.cases_proved.specs.Start.{Setting, ◌is◌, one_cell, viewed}
@@ -8,7 +8,7 @@ use Rattle.cases_proved.specs.Glasses.{mode01, mode10, part, dark, undriven}
 -- ---- the two, and what can be seen of them
 
 pub record Pulsing : Type 0 where
-  pub pixel : Chip → List ℕ → ℕ → ℕ → Pulses
+  pub pixel : Chip → List ℕ → ℕ → ℕ → Result Pulses ℕ
   pub row : Chip → List ℕ → ℕ → List ℕ → PulseRow
 
 unfoldable pub pulsing : Pulsing

@@ -12,16 +12,32 @@
 mod cases;
 mod example;
 
+use print::Printout;
+
+// What is played: on a chip with these pins.
+#[derive(Clone, Copy)]
+struct Case<'a> {
+    name: &'a [u8],
+    pins: u64,
+    events: &'a [u16],
+}
+
+impl<'a> Case<'a> {
+    fn new(name: &'a [u8], pins: u64, events: &'a [u16]) -> Case<'a> {
+        Case { name, pins, events }
+    }
+}
+
 // The number after a blank.
-fn number(n: u64, out: &mut [u8], at: usize) -> usize {
-    let next = print::byte(b' ', out, at);
-    print::decimal(n, out, next)
+fn number(n: u64, out: &mut Printout) {
+    out.byte(b' ');
+    out.decimal(n);
 }
 
 // A word, and a number after it.
-fn told(word: &[u8], n: u64, out: &mut [u8], at: usize) -> usize {
-    let next = print::bytes(word, out, at);
-    number(n, out, next)
+fn told(word: &[u8], n: u64, out: &mut Printout) {
+    out.bytes(word);
+    number(n, out);
 }
 
 // The events one by one, up to the first refused one.
@@ -30,73 +46,60 @@ fn answers(
     memory: &mut [u8],
     writers: &mut [u64],
     events: &[u16],
-    out: &mut [u8],
-    at: usize,
-) -> usize {
+    out: &mut Printout,
+) {
     let mut count = 0;
-    let mut next = at;
-    let mut i = 0;
-    while i < events.len() {
-        let answer = host::pcf8820_step(record, memory, writers, &mut count, events[i]);
-        next = number(answer, out, next);
+    for event in events {
+        let answer = host::pcf8820_step(record, memory, writers, &mut count, *event);
+        number(answer, out);
         if answer < 256 {
-            break;
+            return;
         }
-        i += 1;
     }
-    next
 }
 
-fn words(record: &[u64], out: &mut [u8], at: usize) -> usize {
-    let mut next = at;
-    let mut i = 0;
-    while i < record.len() {
-        next = number(record[i], out, next);
-        i += 1;
+fn words(record: &[u64], out: &mut Printout) {
+    for word in record {
+        number(*word, out);
     }
-    next
 }
 
 // A place that no event has written is left out.
-fn cell(place: u64, byte: u8, writer: u64, out: &mut [u8], at: usize) -> usize {
+fn cell(place: u64, byte: u8, writer: u64, out: &mut Printout) {
     if writer == 0 {
-        return at;
+        return;
     }
-    let mut next = told(b"cell", place % 101, out, at);
-    next = number(place / 101, out, next);
-    next = number(byte as u64, out, next);
-    next = number(writer, out, next);
-    print::byte(b'\n', out, next)
+    told(b"cell", place % 101, out);
+    number(place / 101, out);
+    number(u64::from(byte), out);
+    number(writer, out);
+    out.byte(b'\n');
 }
 
-fn cells(memory: &[u8; 1717], writers: &[u64; 1717], out: &mut [u8], at: usize) -> usize {
-    let mut next = at;
-    let mut place = 0;
-    while place < 1717 {
-        next = cell(place as u64, memory[place], writers[place], out, next);
-        place += 1;
+fn cells(memory: &[u8; 1717], writers: &[u64; 1717], out: &mut Printout) {
+    for place in 0..1717 {
+        cell(place as u64, memory[place], writers[place], out);
     }
-    next
 }
 
 // In the four frames; a pixel that is not lit is left out.
-fn pulses(record: &[u64], memory: &[u8], row: u64, out: &mut [u8], at: usize) -> usize {
+fn pulses(record: &[u64], memory: &[u8], row: u64, out: &mut Printout) {
     let word = host::pcf8820_pulses(record, memory, row, 5);
     if word < 4294967296 {
-        return at;
+        return;
     }
-    let mut next = told(b"pulses", row, out, at);
-    next = number(5, out, next);
-    next = number(word % 256, out, next);
-    next = number(word / 256 % 256, out, next);
-    next = number(word / 65536 % 256, out, next);
-    next = number(word / 16777216 % 256, out, next);
-    print::byte(b'\n', out, next)
+    told(b"pulses", row, out);
+    number(5, out);
+    number(word % 256, out);
+    number(word / 256 % 256, out);
+    number(word / 65536 % 256, out);
+    number(word / 16777216 % 256, out);
+    out.byte(b'\n');
 }
 
 // The record after a power-on reset, with the counts of a counting start over this memory.
 fn begin(memory: &[u8], pins: u64) -> [u64; 38] {
-    let mut record = [0u64; 38];
+    let mut record = [0; 38];
     host::pcf8820_reset(&mut record, pins);
     let mut zeros = 0;
     let mut ones = 0;
@@ -110,13 +113,13 @@ fn begin(memory: &[u8], pins: u64) -> [u64; 38] {
     record
 }
 
-fn step_by_step(pins: u64, events: &[u16], out: &mut [u8], at: usize) -> usize {
-    let mut memory = [0u8; 1717];
-    let mut writers = [0u64; 1717];
-    let mut record = begin(&memory, pins);
-    let first = print::bytes(b"answers", out, at);
-    let end = answers(&mut record, &mut memory, &mut writers, events, out, first);
-    print::byte(b'\n', out, end)
+fn step_by_step(case: Case, out: &mut Printout) {
+    let mut memory = [0; 1717];
+    let mut writers = [0; 1717];
+    let mut record = begin(&memory, case.pins);
+    out.bytes(b"answers");
+    answers(&mut record, &mut memory, &mut writers, case.events, out);
+    out.byte(b'\n');
 }
 
 // All events in one run, and what it gives.
@@ -126,9 +129,8 @@ fn run(
     writers: &mut [u64],
     count: &mut u64,
     events: &[u16],
-    out: &mut [u8],
-    at: usize,
-) -> usize {
+    out: &mut Printout,
+) {
     let mut done = 0;
     let mut unknown = 0;
     let mut out_of_range = 0;
@@ -142,110 +144,142 @@ fn run(
         &mut unknown,
         &mut out_of_range,
     );
-    let mut next = told(b"done", done, out, at);
-    next = told(b" refusal", refusal, out, next);
-    next = told(b" unknown", unknown, out, next);
-    next = told(b" out-of-range", out_of_range, out, next);
-    print::byte(b'\n', out, next)
+    told(b"done", done, out);
+    told(b" refusal", refusal, out);
+    told(b" unknown", unknown, out);
+    told(b" out-of-range", out_of_range, out);
+    out.byte(b'\n');
 }
 
 // The words of the record, and the count behind them.
-fn record_line(record: &[u64], count: u64, out: &mut [u8], at: usize) -> usize {
-    let first = print::bytes(b"record", out, at);
-    let last = words(record, out, first);
-    let end = number(count, out, last);
-    print::byte(b'\n', out, end)
+fn record_line(record: &[u64], count: u64, out: &mut Printout) {
+    out.bytes(b"record");
+    words(record, out);
+    number(count, out);
+    out.byte(b'\n');
 }
 
-fn lit_rows(record: &[u64], memory: &[u8], out: &mut [u8], at: usize) -> usize {
-    let mut next = pulses(record, memory, 8, out, at);
-    next = pulses(record, memory, 9, out, next);
-    next = pulses(record, memory, 10, out, next);
-    pulses(record, memory, 11, out, next)
-}
-
-fn at_once(pins: u64, events: &[u16], out: &mut [u8], at: usize) -> usize {
-    let mut memory = [0u8; 1717];
-    let mut writers = [0u64; 1717];
-    let mut record = begin(&memory, pins);
+fn at_once(case: Case, out: &mut Printout) {
+    let mut memory = [0; 1717];
+    let mut writers = [0; 1717];
+    let mut record = begin(&memory, case.pins);
     let mut count = 0;
-    let mut next = run(
+    run(
         &mut record,
         &mut memory,
         &mut writers,
         &mut count,
-        events,
+        case.events,
         out,
-        at,
     );
-    next = record_line(&record, count, out, next);
-    next = cells(&memory, &writers, out, next);
-    lit_rows(&record, &memory, out, next)
+    record_line(&record, count, out);
+    cells(&memory, &writers, out);
+    for row in 8..12 {
+        pulses(&record, &memory, row, out);
+    }
+}
+
+fn case_text(case: Case, out: &mut Printout) {
+    out.bytes(b"case ");
+    out.bytes(case.name);
+    out.byte(b'\n');
+    step_by_step(case, out);
+    at_once(case, out);
 }
 
 // No case has more than 4,096 bytes. Each is put out by itself; whether the system took it.
-fn play(rt: &HostRuntime, name: &[u8], pins: u64, events: &[u16]) -> bool {
-    let mut out = program_io::large_buffer();
-    let mut next = print::bytes(b"case ", &mut out, 0);
-    next = print::bytes(name, &mut out, next);
-    next = print::byte(b'\n', &mut out, next);
-    next = step_by_step(pins, events, &mut out, next);
-    next = at_once(pins, events, &mut out, next);
-    program_io::put(rt, b"cases_run", &out, next)
+fn play(rt: &HostRuntime, case: Case) -> bool {
+    let mut text = program_io::room::<4096>();
+    let printed = print::whole(|out| case_text(case, out), &mut text);
+    program_io::put_text(rt, b"cases_run", &text, printed)
+}
+
+// Up to the first that the system does not take; whether it took all.
+fn play_all(rt: &HostRuntime, cases: &[Case]) -> bool {
+    for case in cases {
+        if !play(rt, *case) {
+            return false;
+        }
+    }
+    true
 }
 
 // X and Y commands, and the address counter at its ends.
 fn addresses(rt: &HostRuntime) -> bool {
-    play(rt, b"put-5-2-167", 0, &cases::PUT_5_2_167)
-        && play(rt, b"x-e4", 0, &cases::X_E4)
-        && play(rt, b"x-e5", 0, &cases::X_E5)
-        && play(rt, b"counter-v0-100-3", 0, &cases::COUNTER_V0_100_3)
-        && play(rt, b"counter-v1-7-16", 0, &cases::COUNTER_V1_7_16)
-        && play(rt, b"counter-v0-100-16", 0, &cases::COUNTER_V0_100_16)
-        && play(rt, b"counter-v1-100-16", 0, &cases::COUNTER_V1_100_16)
+    play_all(
+        rt,
+        &[
+            Case::new(b"put-5-2-167", 0, &cases::PUT_5_2_167),
+            Case::new(b"x-e4", 0, &cases::X_E4),
+            Case::new(b"x-e5", 0, &cases::X_E5),
+            Case::new(b"counter-v0-100-3", 0, &cases::COUNTER_V0_100_3),
+            Case::new(b"counter-v1-7-16", 0, &cases::COUNTER_V1_7_16),
+            Case::new(b"counter-v0-100-16", 0, &cases::COUNTER_V0_100_16),
+            Case::new(b"counter-v1-100-16", 0, &cases::COUNTER_V1_100_16),
+        ],
+    )
 }
 
 // Six bits in bank 16, the swap before them, columns from the right.
 fn stored_bytes(rt: &HostRuntime) -> bool {
-    play(rt, b"bank-16-ff", 0, &cases::BANK_16_FF)
-        && play(rt, b"bank-16-swapped", 0, &cases::BANK_16_SWAPPED)
-        && play(rt, b"mirror-x", 0, &cases::MIRROR_X)
+    play_all(
+        rt,
+        &[
+            Case::new(b"bank-16-ff", 0, &cases::BANK_16_FF),
+            Case::new(b"bank-16-swapped", 0, &cases::BANK_16_SWAPPED),
+            Case::new(b"mirror-x", 0, &cases::MIRROR_X),
+        ],
+    )
 }
 
 // The status byte, and what is read in its place.
 fn reads(rt: &HostRuntime) -> bool {
-    play(rt, b"sensor", 0, &cases::SENSOR)
-        && play(rt, b"sensor-in-power-down", 0, &cases::SENSOR_IN_POWER_DOWN)
-        && play(rt, b"read-rs-1", 0, &cases::READ_RS_1)
+    play_all(
+        rt,
+        &[
+            Case::new(b"sensor", 0, &cases::SENSOR),
+            Case::new(b"sensor-in-power-down", 0, &cases::SENSOR_IN_POWER_DOWN),
+            Case::new(b"read-rs-1", 0, &cases::READ_RS_1),
+        ],
+    )
 }
 
 // Addresses, control bytes, reset pulse, a refused event.
 fn bus(rt: &HostRuntime) -> bool {
-    play(rt, b"other-address", 0, &cases::OTHER_ADDRESS)
-        && play(rt, b"address-pins-1", 1, &cases::ADDRESS_PINS_1)
-        && play(rt, b"reset-keeps-memory", 0, &cases::RESET_KEEPS_MEMORY)
-        && play(rt, b"refused-event", 0, &cases::REFUSED_EVENT)
-        && play(rt, b"endless-commands", 0, &cases::ENDLESS_COMMANDS)
-        && play(rt, b"single-data-bytes", 0, &cases::SINGLE_DATA_BYTES)
-        && play(rt, b"byte-while-reading", 0, &cases::BYTE_WHILE_READING)
+    play_all(
+        rt,
+        &[
+            Case::new(b"other-address", 0, &cases::OTHER_ADDRESS),
+            Case::new(b"address-pins-1", 1, &cases::ADDRESS_PINS_1),
+            Case::new(b"reset-keeps-memory", 0, &cases::RESET_KEEPS_MEMORY),
+            Case::new(b"refused-event", 0, &cases::REFUSED_EVENT),
+            Case::new(b"endless-commands", 0, &cases::ENDLESS_COMMANDS),
+            Case::new(b"single-data-bytes", 0, &cases::SINGLE_DATA_BYTES),
+            Case::new(b"byte-while-reading", 0, &cases::BYTE_WHILE_READING),
+        ],
+    )
 }
 
 // Bytes of no row, addresses that there are not, the grey registers, rows that change nothing, and greys on the glass.
 fn commands(rt: &HostRuntime) -> bool {
-    play(rt, b"unknown-commands", 0, &cases::UNKNOWN_COMMANDS)
-        && play(
-            rt,
-            b"taken-unknown-out-of-range",
-            0,
-            &cases::TAKEN_UNKNOWN_OUT_OF_RANGE,
-        )
-        && play(rt, b"grey-levels", 0, &cases::GREY_LEVELS)
-        && play(rt, b"row-block-swapping", 0, &cases::ROW_BLOCK_SWAPPING)
-        && play(rt, b"pulses-17-30-63", 0, &cases::PULSES_17_30_63)
+    play_all(
+        rt,
+        &[
+            Case::new(b"unknown-commands", 0, &cases::UNKNOWN_COMMANDS),
+            Case::new(b"taken-unknown-out-of-range", 0, &cases::TAKEN_UNKNOWN_OUT_OF_RANGE),
+            Case::new(b"grey-levels", 0, &cases::GREY_LEVELS),
+            Case::new(b"row-block-swapping", 0, &cases::ROW_BLOCK_SWAPPING),
+            Case::new(b"pulses-17-30-63", 0, &cases::PULSES_17_30_63),
+        ],
+    )
+}
+
+fn data_sheet(rt: &HostRuntime) -> bool {
+    play(rt, Case::new(b"example-13.1", 0, &example::EVENTS))
 }
 
 fn all(rt: &HostRuntime) -> bool {
-    play(rt, b"example-13.1", 0, &example::EVENTS)
+    data_sheet(rt)
         && addresses(rt)
         && stored_bytes(rt)
         && reads(rt)

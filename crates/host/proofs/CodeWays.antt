@@ -1,6 +1,8 @@
 -- Ways through the code of the calls, over plain variables.
 use mathlib.Core.Path.{◌≡◌, refl, sym, ap, ◌∙◌}
 use mathlib.Core.Bool.{true, false}
+use Rattle.std.specs.Prelude as std
+use Rattle.std.specs.Prelude.{Option, None, Some}
 use mathlib.Core.List.{List}
 use Prim.Native.Nat.{ℕ, zero, suc, ◌≤◌, ◌<◌}
 use borrow.Author.Tests.{eq-eqb, ne_eqb, le-leb, lt-leb}
@@ -20,7 +22,6 @@ use Rattle.engine.proofs.Tallies.{tally-refused}
 use Rattle.chip.proofs.Laws.{tallied-from-entry, step-past-entry, run-past-entry}
 use Rattle.chip.specs.Promised.{CommandAnswer}
 use Rattle.glass.specs.declared.answer.Shown.{Shown}
-use Rattle.glass.specs.declared.answer.Cell.{Cell}
 use Rattle.glass.specs.Answer.{shown_number, cell_number}
 use Rattle.glass.specs.Glass.{cell_of, glass_of}
 use Rattle.pulses.specs.declared.answer.Pulses.{Pulses}
@@ -30,8 +31,6 @@ use Rattle.pulses.specs.Row.{pulse_row, row_of}
 use Rattle.compiler.specs.Answer.{Compiled}
 use Rattle.compiler.specs.declared.answer.Numbers.{Numbers}
 use Rattle.compiler.specs.Compile.{Result, answered, compile_of, numbers_of}
-use Rattle.record_words.specs.declared.Read.{Read}
-use Rattle.record_words.specs.declared.Read.TheVariants.{Record, NoRecord}
 use Rattle.record_words.specs.Words.{record_length, stands_for, chip_of, words_of, read_of, stored}
 use Rattle.record_words.proofs.Laws.{read-record-exactly, read-none-exactly, stored-over, words-chip-words, stands-allowed}
 use Rattle.host.specs.Calls.{no_record_for, no_record, reset, reset_call, stepped, after_step, step_call, ran, after_run, run_call}
@@ -53,7 +52,7 @@ module _ (pins : ℕ) (ws : List ℕ) where
   reset-done c l n h ec el = rw (el, eq-eqb _ _ n, le-leb _ _ h, ec)
 
 -- x is what the words gave: no record
-module _ (ws : List ℕ) (x : Read) (ex : x ≡ read_of ws) (no : x ≡ NoRecord) where
+module _ (ws : List ℕ) (x : Option Chip) (ex : x ≡ read_of ws) (no : x ≡ None) where
   none : stands_for ws ≡ false
   none = (read-none-exactly ws).0 (sym ex ∙ no)
 
@@ -90,7 +89,7 @@ tally-past : (b : CommandAnswer) (es : List ℕ) (s : State) → Fit s → tally
 tally-past b es s fit = sym (tallied-from-entry b es s ∙ ap (λ (k : ℕ). count_unless k (tally_past_entry b es s)) (fit-entry s fit))
 
 -- or the record c
-module _ (ws : List ℕ) (x : Read) (c : Chip) (ex : x ≡ read_of ws) (is : x ≡ Record c) where
+module _ (ws : List ℕ) (x : Option Chip) (c : Chip) (ex : x ≡ read_of ws) (is : x ≡ Some c) where
   stands : stands_for ws ≡ true
   stands = ((read-record-exactly ws c).0 (sym ex ∙ is)).0
 
@@ -153,16 +152,16 @@ module _ (ws : List ℕ) (x : Read) (c : Chip) (ex : x ≡ read_of ws) (is : x �
       let fit = fits m w count k told z in
       rw (stands, ← chip, ← er ∙ run-past-entry es s fit, ← eu ∙ tally-past Unknown es s fit, ← eo ∙ tally-past OutOfRange es s fit, el ∙ stored-over ws c' stands)
 
-  pub place-done : (row column n : ℕ) (a : Cell) → a ≡ cell_of c row column → n ≡ cell_number a → n ≡ place_call row column ws
+  pub place-done : (row column n : ℕ) (a : std.Result ℕ ℕ) → a ≡ cell_of c row column → n ≡ cell_number a → n ≡ place_call row column ws
   unfolding place_call
   place-done row column n a ea en = rw (stands, ← chip, ← ea) en
 
-  pub glass-done : (row column : ℕ) (m : List ℕ) (n : ℕ) (a : Shown) → a ≡ glass_of c m row column → n ≡ shown_number a → n ≡ glass_call row column ws m
+  pub glass-done : (row column : ℕ) (m : List ℕ) (n : ℕ) (a : std.Result Shown ℕ) → a ≡ glass_of c m row column → n ≡ shown_number a → n ≡ glass_call row column ws m
   unfolding glass_call
   glass-done row column m n a ea en = rw (stands, ← chip, ← ea) en
 
   pub pulses-done :
-      (row column : ℕ) (m : List ℕ) (n : ℕ) (a : Pulses) → a ≡ pulses_of c m row column → n ≡ pulses_number a → n ≡ pulses_call row column ws m
+      (row column : ℕ) (m : List ℕ) (n : ℕ) (a : std.Result Pulses ℕ) → a ≡ pulses_of c m row column → n ≡ pulses_number a → n ≡ pulses_call row column ws m
   unfolding pulses_call
   pulses-done row column m n a ea en = rw (stands, ← chip, ← ea) en
 

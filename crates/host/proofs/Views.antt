@@ -12,6 +12,7 @@ use Rattle.registers.specs.Refusals.{refuse, ◌then◌}
 use Rattle.registers.specs.State.{places}
 use Rattle.registers.proofs.Refusals.{then-zero}
 use Rattle.record_words.specs.Words.{stands_for, chip_of}
+use Rattle.std.specs.Prelude.{Result, Ok, Err}
 use Rattle.glass.specs.declared.answer.Shown.{Shown}
 use Rattle.glass.specs.declared.answer.Shown.TheVariants as shown
 use Rattle.glass.specs.Pixel.{place_at}
@@ -89,7 +90,7 @@ module _ (row column : ℕ) (ws : List ℕ) where
 
     -- whichever number a call has for what is shown, that of a refusal is its own
     refused-by-its-number :
-        (number : Shown → ℕ) → ((j : ℕ) → number (shown.Refused j) ≡ j) → (k : ℕ) → glass_refusal row column ws m ≡ suc k
+        (number : Result Shown ℕ → ℕ) → ((j : ℕ) → number (Err j) ≡ j) → (k : ℕ) → glass_refusal row column ws m ≡ suc k
         → cond (stands_for ws) (number (glass_of (chip_of ws) m row column)) (no_record_for (length m) places) ≡ suc k
     unfolding glass_of
     refused-by-its-number number own k r = go (stands_for ws) refl
@@ -112,12 +113,12 @@ module _ (row column : ℕ) (ws : List ℕ) where
         go false h = absurd (glass-never-none (eqb (length m) places) (rw h at r))
 
     pub glass-shown :
-        glass_refusal row column ws m ≡ 0 → glass_call row column ws m ≡ shown_number (shown_at (chip_of ws).registers m (ram_row_of (chip_of ws) row) column)
+        glass_refusal row column ws m ≡ 0 → glass_call row column ws m ≡ shown_number (Ok (shown_at (chip_of ws).registers m (ram_row_of (chip_of ws) row) column))
     unfolding glass_call glass_of
     glass-shown r = let h = stands-unless-refused r in rw (h, glass-of-chip h ∙ r)
 
     -- 512 + g is given exactly where the glass shows level g
-    pub glass-level : (g : ℕ) → (glass_call row column ws m ≡ 512 + g) ↔ ((stands_for ws ≡ true) × (glass_of (chip_of ws) m row column ≡ shown.Level g))
+    pub glass-level : (g : ℕ) → (glass_call row column ws m ≡ 512 + g) ↔ ((stands_for ws ≡ true) × (glass_of (chip_of ws) m row column ≡ Ok (shown.Level g)))
     unfolding glass_call
     glass-level g = (
       λ e. let given = given_by ws m _ (512 + g) (omega arith) e in (given.0, (level-number (chip_of ws) m row column g).0 given.1),
@@ -153,14 +154,14 @@ module _ (row column : ℕ) (ws m : List ℕ) where
   pulses-given r = rw (stands-unless-refused row column ws m r)
 
   -- which is 256 exactly where the glass is dark, 257 exactly where it is undriven,
-  pub pulses-dark : (pulses_call row column ws m ≡ 256) ↔ ((stands_for ws ≡ true) × (glass_of (chip_of ws) m row column ≡ shown.Dark))
+  pub pulses-dark : (pulses_call row column ws m ≡ 256) ↔ ((stands_for ws ≡ true) × (glass_of (chip_of ws) m row column ≡ Ok shown.Dark))
   unfolding pulses_call
   pulses-dark = (
     λ e. let given = given_by ws m _ 256 (omega arith) e in (given.0, (number-dark (chip_of ws) m row column).0 given.1),
     λ w. rw (w.0, w.1),
   )
 
-  pub pulses-undriven : (pulses_call row column ws m ≡ 257) ↔ ((stands_for ws ≡ true) × (glass_of (chip_of ws) m row column ≡ shown.Undriven))
+  pub pulses-undriven : (pulses_call row column ws m ≡ 257) ↔ ((stands_for ws ≡ true) × (glass_of (chip_of ws) m row column ≡ Ok shown.Undriven))
   unfolding pulses_call
   pulses-undriven = (
     λ e. let given = given_by ws m _ 257 (omega arith) e in (given.0, (number-undriven (chip_of ws) m row column).0 given.1),
@@ -176,7 +177,7 @@ module _ (row column : ℕ) (ws m : List ℕ) where
   )
 
   pub pulse-in-number :
-      (g k : ℕ) → stands_for ws ≡ true → glass_of (chip_of ws) m row column ≡ shown.Level g → k < 4
+      (g k : ℕ) → stands_for ws ≡ true → glass_of (chip_of ws) m row column ≡ Ok (shown.Level g) → k < 4
       → pulses_call row column ws m / 2 ^ (8 * k) % 2 ^ 8 ≡ pulse g k
   unfolding pulses_call
   pulse-in-number g k h e l = rw h (number-pulse (chip_of ws) m row column g k e l)

@@ -3,8 +3,6 @@ ghost use Rattle.std.specs.Prelude.{◌≡◌};
 ghost use Rattle.bus_host.specs.Buffers.{four_lent};
 ghost use Rattle.bus_host.specs.BusCall.{called, bus_call};
 
-use bus_host::FourRead;
-
 // One event of the bus. A refused one leaves all buffers and the count as they are.
 pub fn pcf8820_bus_step(
     record0: &mut [u64],
@@ -34,9 +32,8 @@ pub fn pcf8820_bus_step(
         record2.old memory2.old writers2.old
         record3.old memory3.old writers3.old) count.old }
 {
-    let found = bus_host::read_four(record0, record1, record2, record3);
-    let FourRead::Records(chips) = found else {
-        return bus_host::no_record(
+    let Some(chips) = bus_host::read_four(record0, record1, record2, record3) else {
+        let refusal = bus_host::no_record(
             memory0.len(),
             writers0.len(),
             memory1.len(),
@@ -46,15 +43,15 @@ pub fn pcf8820_bus_step(
             memory3.len(),
             writers3.len(),
         );
+        return u64::from(refusal.number());
     };
     let before = *count;
     let stepped = bus_step::step(
         event, pins, chips, before, memory0, writers0, memory1, writers1, memory2, writers2,
         memory3, writers3,
     );
-    let answer = stepped.answer;
     let after = stepped.count;
     *count = after;
     bus_host::write_four(stepped.chips, record0, record1, record2, record3);
-    answer.number()
+    engine::answer::number(stepped.answer)
 }

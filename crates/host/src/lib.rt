@@ -2,6 +2,7 @@
 #![tactic(auto)]
 
 ghost use Rattle.std.specs.Prelude.{◌≡◌};
+ghost use Rattle.refusals.specs.Numbers.{refused_by};
 ghost use Rattle.registers.specs.Refusals.{lengths_refusal};
 ghost use Rattle.host.specs.Calls.{no_record_for, reset, reset_call, stepped, step_call, ran, run_call};
 ghost use Rattle.host.specs.Compiling.{compiled, compile_call};
@@ -9,21 +10,33 @@ ghost use Rattle.host.specs.Views.{glass_call, place_call};
 ghost use Rattle.host.specs.Pulses.{pulses_call, pulse_row_call};
 ghost use Rattle.pulses.specs.Row.{pulse_row};
 
-use record_words::{Read, WORDS, read_record, write_record};
+use record_words::{WORDS, read_record, write_record};
+use compiler::answer::Numbers;
+use refusals::Refusal;
 use registers::Chip;
 
 pub mod bus_call;
 pub mod counts_call;
 pub mod wires_call;
 
-// 1: a lent memory of another length; 0 is none.
+// The number of a refusal; 0 is none.
+fn refused_by(done: Result<(), Refusal>) -> u64
+    ensures { result ≡ refused_by done }
+{
+    match done {
+        Ok(()) => 0,
+        Err(refusal) => u64::from(refusal.number()),
+    }
+}
+
+// Where a lent memory has another length.
 fn other_length(memory_len: usize, writers_len: usize) -> u64
     ensures { result ≡ lengths_refusal memory_len writers_len }
 {
-    registers::refusal::of_lengths(memory_len, writers_len) as u64
+    refused_by(registers::refusal::lengths(memory_len, writers_len))
 }
 
-// Why words that stand for no record are refused: 1 comes first.
+// Why words that stand for no record are refused: another length of a memory comes first.
 fn no_record(memory_len: usize, writers_len: usize) -> u64
     ensures { result ≡ no_record_for memory_len writers_len }
 {
@@ -60,8 +73,7 @@ pub fn pcf8820_step(
     ensures { stepped result «record».new memory.new writers.new count.new
         ≡ step_call event «record».old memory.old writers.old count.old }
 {
-    let found = read_record(record);
-    let Read::Record(chip) = found else {
+    let Some(chip) = read_record(record) else {
         return no_record(memory.len(), writers.len());
     };
     let refused = other_length(memory.len(), writers.len());
@@ -69,10 +81,9 @@ pub fn pcf8820_step(
         return refused;
     }
     let stepped = engine::past_entry::step(event, chip, *count, memory, writers);
-    let answer = stepped.answer;
     *count = stepped.count;
     write_record(stepped.chip, record);
-    answer.number()
+    engine::answer::number(stepped.answer)
 }
 
 // Events in order up to the first refused one: how many were done, and how many of those were commands that were unknown and out of range.
@@ -90,18 +101,14 @@ pub fn pcf8820_run(
         «record».new memory.new writers.new count.new
         ≡ run_call events.now «record».old memory.old writers.old count.old }
 {
-    let found = read_record(record);
-    let Read::Record(chip) = found else {
-        *done = 0;
-        *unknown = 0;
-        *out_of_range = 0;
+    *done = 0;
+    *unknown = 0;
+    *out_of_range = 0;
+    let Some(chip) = read_record(record) else {
         return no_record(memory.len(), writers.len());
     };
     let refused = other_length(memory.len(), writers.len());
     if refused != 0 {
-        *done = 0;
-        *unknown = 0;
-        *out_of_range = 0;
         return refused;
     }
     let ran = engine::past_entry::run(chip, *count, memory, writers, events);
@@ -110,43 +117,40 @@ pub fn pcf8820_run(
     *unknown = ran.unknown as u64;
     *out_of_range = ran.out_of_range as u64;
     write_record(ran.chip, record);
-    ran.refusal as u64
+    u64::from(refusals::number_of(ran.refusal))
 }
 
 // What a row and column of the glass show. No writer numbers are lent, so that their length is never wrong.
 pub fn pcf8820_glass(record: &[u64], memory: &[u8], row: u64, column: u64) -> u64
     ensures { result ≡ glass_call row column «record».now memory.now }
 {
-    let found = read_record(record);
-    let Read::Record(chip) = found else {
+    let Some(chip) = read_record(record) else {
         return no_record(memory.len(), 1717);
     };
     let shown = glass::glass(chip, memory, row as usize, column as usize);
-    shown.number()
+    glass::answer::shown_number(shown)
 }
 
 // Which place of the memories a row and column of the glass show.
 pub fn pcf8820_place(record: &[u64], row: u64, column: u64) -> u64
     ensures { result ≡ place_call row column «record».now }
 {
-    let found = read_record(record);
-    let Read::Record(chip) = found else {
+    let Some(chip) = read_record(record) else {
         return 2;
     };
     let place = glass::place(chip, row as usize, column as usize);
-    place.number()
+    glass::answer::place_number(place)
 }
 
 // The pulses of a pixel in the four frames.
 pub fn pcf8820_pulses(record: &[u64], memory: &[u8], row: u64, column: u64) -> u64
     ensures { result ≡ pulses_call row column «record».now memory.now }
 {
-    let found = read_record(record);
-    let Read::Record(chip) = found else {
+    let Some(chip) = read_record(record) else {
         return no_record(memory.len(), 1717);
     };
     let pulses = pulses::of_pixel(chip, memory, row as usize, column as usize);
-    pulses.number()
+    pulses::answer::pulses_number(pulses)
 }
 
 // Those of a whole row of the glass.
@@ -154,12 +158,10 @@ pub fn pcf8820_pulse_row(record: &[u64], memory: &[u8], row: u64, out: &mut [u8]
     ensures { pulse_row result out.new
         ≡ pulse_row_call row «record».now memory.now out.old }
 {
-    let found = read_record(record);
-    let Read::Record(chip) = found else {
+    let Some(chip) = read_record(record) else {
         return no_record(memory.len(), 1717);
     };
-    let refused = pulses::of_row(chip, memory, row as usize, out);
-    refused as u64
+    refused_by(pulses::of_row(chip, memory, row as usize, out))
 }
 
 // A drawing list to bus events.
@@ -174,15 +176,13 @@ pub fn pcf8820_compile(
     ensures { compiled result length.new clocks.new line.new out.new
         ≡ compile_call «record».now text.now out.old }
 {
-    let found = read_record(record);
-    let Read::Record(chip) = found else {
+    let Some(chip) = read_record(record) else {
         *length = 0;
         *clocks = 0;
         *line = 0;
         return 2;
     };
-    let answer = compiler::compile(chip, text, out);
-    let numbers = answer.numbers();
+    let numbers = Numbers::of(compiler::compile(chip, text, out));
     *length = numbers.length;
     *clocks = numbers.clocks;
     *line = numbers.line;
