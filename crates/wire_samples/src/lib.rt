@@ -39,6 +39,7 @@ pub struct Wires {
 }
 
 // How many samples were consumed, how many events written, the refusal, if any, and the wires after those samples.
+// kept (promise): answer_of tells what was consumed and written where a call is refused for want of room, too
 #[derive(Clone, Copy, Debug, PartialEq, Eq)]
 pub struct Fed {
     pub wires: Wires,

@@ -30,10 +30,11 @@ pub fn read(wires: Wires, samples: &[u8], events: &mut [u16]) -> Fed
         ≡ stored (as_much_as_fits (length events.old) wires samples.now).events events.old }
 {
     let mut after = wires;
+    let mut last = wires.last;
     let mut written = 0;
     for (at, now) in samples.iter().enumerate() {
         // The last one again tells nothing, and a probe that samples often gives many of them.
-        if *now == after.last {
+        if *now == last {
             continue;
         }
         let sampled = sample(after, *now);
@@ -46,6 +47,7 @@ pub fn read(wires: Wires, samples: &[u8], events: &mut [u16]) -> Fed
             };
         };
         after = sampled.wires;
+        last = *now;
         written = next;
     }
     Fed {

@@ -1,4 +1,5 @@
 // The stages by the host's numbers.
+// kept (no plainer): Stage and u64 are both of other crates, so that neither From nor TryFrom can be written between them here
 ghost use Rattle.std.specs.Prelude.{◌≡◌, ◌≤◌};
 ghost use Rattle.wire_words.specs.Words.{stage_of, stage_number};
 
