@@ -6,4 +6,4 @@ returns-in_default c = pulse-row-no-record _ _ c.read_record.ensures c.in_defaul
 
 pub returns : goal.returns
 returns c =
-    pulse-row-done _ _ _ c.read_record.ensures c.in-Some.is _ _ _ _ _ c.of_row-refused.ensures
+    rw c.refused_by.ensures (pulse-row-done _ _ _ c.read_record.ensures c.in-Some.is _ _ _ _ _ c.of_row.ensures)
