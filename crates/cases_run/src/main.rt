@@ -266,7 +266,11 @@ fn commands(rt: &HostRuntime) -> bool {
         rt,
         &[
             Case::new(b"unknown-commands", 0, &cases::UNKNOWN_COMMANDS),
-            Case::new(b"taken-unknown-out-of-range", 0, &cases::TAKEN_UNKNOWN_OUT_OF_RANGE),
+            Case::new(
+                b"taken-unknown-out-of-range",
+                0,
+                &cases::TAKEN_UNKNOWN_OUT_OF_RANGE,
+            ),
             Case::new(b"grey-levels", 0, &cases::GREY_LEVELS),
             Case::new(b"row-block-swapping", 0, &cases::ROW_BLOCK_SWAPPING),
             Case::new(b"pulses-17-30-63", 0, &cases::PULSES_17_30_63),
@@ -279,12 +283,7 @@ fn data_sheet(rt: &HostRuntime) -> bool {
 }
 
 fn all(rt: &HostRuntime) -> bool {
-    data_sheet(rt)
-        && addresses(rt)
-        && stored_bytes(rt)
-        && reads(rt)
-        && bus(rt)
-        && commands(rt)
+    data_sheet(rt) && addresses(rt) && stored_bytes(rt) && reads(rt) && bus(rt) && commands(rt)
 }
 
 // It ends at the first case that the system does not take, which has been said.

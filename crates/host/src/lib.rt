@@ -10,8 +10,8 @@ ghost use Rattle.host.specs.Views.{glass_call, place_call};
 ghost use Rattle.host.specs.Pulses.{pulses_call, pulse_row_call};
 ghost use Rattle.pulses.specs.Row.{pulse_row};
 
-use record_words::{WORDS, read_record, write_record};
 use compiler::answer::Numbers;
+use record_words::{WORDS, read_record, write_record};
 use refusals::Refusal;
 use registers::Chip;
 
