@@ -17,7 +17,7 @@ pub mod refusal;
 
 // The chip after the events so far, how many they were, and the present line. Before the end of the first line the pins are not known
 // and the pixels not counted, and the chip stands with pins 0 as for a cleared memory.
-#[derive(Clone, Copy)]
+#[derive(Clone, Copy, Debug, PartialEq, Eq, Hash)]
 pub struct Capture {
     pub chip: Chip,
     pub count: u64,
@@ -26,7 +26,7 @@ pub struct Capture {
 
 // What a capture comes to, with the chip and the count of its events. A bad event line is the line after those and the first line:
 // count + 2, a number that need not fit 64 bits.
-#[derive(Clone, Copy)]
+#[derive(Clone, Copy, Debug, PartialEq, Eq, Hash)]
 pub enum End {
     BadFirst,
     Bad(Chip, u64),

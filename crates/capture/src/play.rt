@@ -12,7 +12,7 @@ use refusals::Refusal;
 use registers::Chip;
 
 // What is kept after event lines of a part, and the place behind them.
-#[derive(Clone, Copy)]
+#[derive(Clone, Copy, Debug, PartialEq, Eq, Hash)]
 pub struct LinesPlayed {
     pub capture: Capture,
     pub at: usize,

@@ -6,7 +6,7 @@ ghost use Rattle.capture_lines.specs.Events.{Digits, line_of, line_in, line_of_d
 use crate::bytes::NEWLINE;
 
 // The event, and how many bytes its line has, the newline among them.
-#[derive(Clone, Copy)]
+#[derive(Clone, Copy, Debug, PartialEq, Eq, Hash)]
 pub struct EventLine {
     pub event: u16,
     pub bytes: usize,

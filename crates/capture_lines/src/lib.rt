@@ -9,7 +9,7 @@ mod bytes;
 mod event;
 
 // What has been read of the present line, its newline not among it.
-#[derive(Clone, Copy)]
+#[derive(Clone, Copy, Debug, PartialEq, Eq, Hash)]
 pub enum LineSoFar {
     // The first line: how many bytes of `pins` and the tab behind it.
     First(u8),
@@ -26,7 +26,7 @@ pub enum LineSoFar {
 }
 
 // A line, and the place up to which it has been read.
-#[derive(Clone, Copy)]
+#[derive(Clone, Copy, Debug, PartialEq, Eq, Hash)]
 pub struct Scanned {
     pub line: LineSoFar,
     pub at: usize,
@@ -49,7 +49,7 @@ pub fn is_refused(line: LineSoFar) -> bool
 }
 
 // How many event lines were read, and the place behind them.
-#[derive(Clone, Copy)]
+#[derive(Clone, Copy, Debug, PartialEq, Eq, Hash)]
 pub struct EventLines {
     pub count: usize,
     pub at: usize,
