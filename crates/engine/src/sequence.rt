@@ -53,6 +53,7 @@ pub fn go_through(
     let mut done = 0;
     let mut unknown = 0;
     let mut out_of_range = 0;
+    // kept (no plainer): a turn may take a whole stretch, so that `done` moves on by what was taken, and not by one
     while done < end {
         let event = events[done];
         let phase = interface.phase;
