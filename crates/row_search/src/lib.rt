@@ -10,7 +10,7 @@ use registers::entry::entry;
 
 // The pages of commands: function and RAM, display setting, high voltage generator, grey-scale and colour, special features. There is no other, so
 // no other can be asked for.
-#[derive(Clone, Copy)]
+#[derive(Clone, Copy, Debug, PartialEq, Eq, Hash)]
 pub enum Page {
     Function,
     Display,
@@ -20,7 +20,7 @@ pub enum Page {
 }
 
 // The row that takes the byte, or ROWS, and how many rows were looked at.
-#[derive(Clone, Copy)]
+#[derive(Clone, Copy, Debug, PartialEq, Eq, Hash)]
 pub struct Found {
     pub row: usize,
     pub looked: usize,
@@ -40,27 +40,22 @@ pub const SPECIAL: [u8; 5] = [1, 18, 19, 20, 0];
 // The independent command page: the rows that stand in every page.
 const INDEPENDENT: [u8; 2] = [1, 0];
 
-// Looks at these rows, one at each turn, up to the one that takes the byte. The tables are laid out once, before the first turn: a constant is laid
+// Looks at these rows, one after the other, up to the one that takes the byte. The tables are laid out once, before the first row: a constant is laid
 // out anew wherever it is named.
 fn look(rows: &[u8], byte: u8) -> Found
     ensures { result ≡ found_among rows.now byte }
 {
     let fixed = FIXED;
     let codes = CODES;
-    let all = rows.len();
-    let mut turns = 0;
-    while turns < all {
-        let place = turns;
-        turns += 1;
-        let row = rows[place] as usize;
+    let mut looked = 0;
+    for row in rows {
+        looked += 1;
+        let row = usize::from(*row);
         if byte & entry(&fixed, row) == entry(&codes, row) {
-            return Found { row, looked: turns };
+            return Found { row, looked };
         }
     }
-    Found {
-        row: ROWS,
-        looked: turns,
-    }
+    Found { row: ROWS, looked }
 }
 
 pub fn find(page: Page, byte: u8) -> Found
