@@ -32,6 +32,7 @@ pub fn measure(text: &[u8], registers: Registers, pins: u8) -> Result<Measured, 
     let mut tracked = registers;
     let mut length = 0;
     let mut bytes = 0;
+    // kept (no plainer): where the next line starts comes with each line.
     while at < text.len() {
         let found = lists::line_at(text, at);
         match found.parsed {

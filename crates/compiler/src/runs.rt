@@ -37,6 +37,7 @@ fn span(first: u8, last: u8) -> usize
 }
 
 // By columns where V = 1, by banks where V = 0.
+// kept (promise): ValidFill, runs_of and fill speak of the five numbers of a fill one by one.
 fn runs_of(
     registers: Registers,
     first_column: u8,

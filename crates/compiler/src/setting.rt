@@ -24,6 +24,7 @@ pub fn page_of(row: usize) -> u8
 }
 
 // The command bytes of a set, the first `count` of `bytes`.
+// kept (rule): no heap, fixed memory: two, four or five bytes, lent as a slice of as many.
 #[derive(Clone, Copy)]
 pub struct Commands {
     pub bytes: [u16; 5],

@@ -16,6 +16,7 @@ pub fn write(out: &mut [u16], text: &[u8], registers: Registers, pins: u8)
     let mut at = 0;
     let mut here = 0;
     let mut tracked = registers;
+    // kept (no plainer): where the next line starts comes with each line.
     while at < text.len() {
         let found = lists::line_at(text, at);
         match found.parsed {

@@ -1,66 +1,54 @@
 // Why the compiler refuses a list, told to a person: a sentence on standard error, which a pipe into another program does not swallow.
-ghost use Rattle.print.specs.Printed.{Wrote};
+ghost use Rattle.refusals.specs.Numbers.{number};
+ghost use Rattle.print.specs.Prints.{Prints};
 ghost use Rattle.draw.specs.Refusal.{place_of, reason_of, sentence_of};
 
-const NEWLINE: u8 = 10;
+use print::Printout;
+use refusals::Refusal;
 
 // The line of the list, where one is to blame.
-fn place(line: u64, out: &mut [u8], at: usize) -> usize
-    ensures { Wrote out.old at (place_of line) out.new result }
+fn place(line: u64, out: &mut Printout)
+    ensures { Prints out.old (place_of line) out.new }
 {
-    if line == 0 {
-        return at;
+    if line != 0 {
+        out.bytes(b", line ");
+        out.decimal(line);
     }
-    let number = print::bytes(b", line ", out, at);
-    print::decimal(line, out, number)
 }
 
 // The rule that is broken. The record of a chip after reset is allowed and there is room for the events, so that only 6, 7, 8 and 9 come.
-fn reason(number: u64, out: &mut [u8], at: usize) -> usize
-    ensures { Wrote out.old at (reason_of number) out.new result }
+fn reason(refusal: Refusal, out: &mut Printout)
+    ensures { Prints out.old (reason_of (number refusal)) out.new }
 {
-    if number == 6 {
-        return print::bytes(
+    match refusal {
+        Refusal::MalformedLine => out.bytes(
             b"no put, fill or set, a field too many or too few, an unknown register, a number with a leading zero or not of 1 to 3 digits, or no newline at the end",
-            out,
-            at,
-        );
-    }
-    if number == 7 {
-        return print::bytes(
+        ),
+        Refusal::NumberOutOfRange => out.bytes(
             b"a column above 100, a bank above 16, ends the wrong way round, a byte above 255, a byte above 63 where bank 16 is touched, or a value wider than its field",
-            out,
-            at,
-        );
-    }
-    if number == 8 {
-        return print::bytes(
+        ),
+        Refusal::UnreadableRow => out.bytes(
             b"a register whose row of the instruction table can't be read",
-            out,
-            at,
-        );
+        ),
+        _ => out.bytes(b"more than 4096 lines"),
     }
-    print::bytes(b"more than 4096 lines", out, at)
 }
 
 // The whole line. `name` is what a message about the list begins with.
-fn sentence(name: &[u8], number: u64, line: u64, out: &mut [u8]) -> usize
-    ensures { Wrote out.old 0 (sentence_of name.now number line) out.new result }
+fn sentence(name: &[u8], refusal: Refusal, line: u64, out: &mut Printout)
+    ensures { Prints out.old (sentence_of name.now (number refusal) line) out.new }
 {
-    let named = print::bytes(name, out, 0);
-    let placed = place(line, out, named);
-    let by = print::bytes(b": refused by ", out, placed);
-    let numbered = print::decimal(number, out, by);
-    let colon = print::bytes(b": ", out, numbered);
-    let end = reason(number, out, colon);
-    print::byte(NEWLINE, out, end)
+    out.bytes(name);
+    place(line, out);
+    out.bytes(b": refused by ");
+    out.decimal(u64::from(refusal.number()));
+    out.bytes(b": ");
+    reason(refusal, out);
+    out.byte(b'\n');
 }
 
-pub fn explain(rt: &HostRuntime, name: &[u8], named: usize, number: u64, line: u64) {
-    if name.len() < named {
-        return;
-    }
-    let mut out = program_io::large_buffer();
-    let length = sentence(&name[..named], number, line, &mut out);
-    program_io::tell(rt, &out, length);
+pub fn explain(rt: &HostRuntime, title: &[u8], refusal: Refusal, line: u64) {
+    let mut out = program_io::room::<65536>();
+    let printed = print::whole(|text| sentence(title, refusal, line, text), &mut out);
+    program_io::say_text(rt, &out, printed);
 }

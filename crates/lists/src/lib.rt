@@ -60,6 +60,7 @@ pub fn count_newlines(text: &[u8]) -> usize
 {
     let mut reader = Reader::new(text, 0);
     let mut count = 0;
+    // kept (promise): count_newlines takes one reader from line to line over a whole text.
     while reader.at < text.len() {
         reader = reader.next();
         count += newline_before(text, reader.at);

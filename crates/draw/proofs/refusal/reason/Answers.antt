@@ -1,18 +1,26 @@
-use Rattle.print.proofs.Writing.{wrote-same}
-use Rattle.draw.proofs.CodeWays.{reason-6, reason-7, reason-8, reason-9}
+use mathlib.Core.Path.{sym, ap}
+use Rattle.refusals.specs.declared.Refusal.{Refusal}
+use Rattle.refusals.specs.Numbers.{number}
+use Rattle.print.proofs.Writing.{prints-same}
+use Rattle.draw.specs.Refusal.{reason_of}
+use Rattle.draw.proofs.CodeWays.{other-reason}
 use Rattle.draw.proofs.refusal.reason.Goals as goal
 
-pub returns-then-number-eq6 : goal.returns-then-number-eq6
-returns-then-number-eq6 c = wrote-same (reason-6 _ c.if-number-eq6.true) c.bytes.ensures
+pub returns-in-MalformedLine : goal.returns-in-MalformedLine
+unfolding reason_of
+returns-in-MalformedLine c =
+    prints-same (ap (λ (r : Refusal). reason_of (number r)) (sym c.in-MalformedLine.is)) c.bytes.ensures
 
-pub returns-then-number-eq7 : goal.returns-then-number-eq7
-returns-then-number-eq7 c =
-    wrote-same (reason-7 _ c.if-number-eq6.false c.if-number-eq7.true) c.bytes-then-number-eq7.ensures
+pub returns-in-NumberOutOfRange : goal.returns-in-NumberOutOfRange
+unfolding reason_of
+returns-in-NumberOutOfRange c =
+    prints-same (ap (λ (r : Refusal). reason_of (number r)) (sym c.in-NumberOutOfRange.is)) c.bytes-in-NumberOutOfRange.ensures
 
-pub returns-then-number-eq8 : goal.returns-then-number-eq8
-returns-then-number-eq8 c =
-    wrote-same (reason-8 _ c.if-number-eq6.false c.if-number-eq7.false c.if-number-eq8.true) c.bytes-then-number-eq8.ensures
+pub returns-in-UnreadableRow : goal.returns-in-UnreadableRow
+unfolding reason_of
+returns-in-UnreadableRow c =
+    prints-same (ap (λ (r : Refusal). reason_of (number r)) (sym c.in-UnreadableRow.is)) c.bytes-in-UnreadableRow.ensures
 
-pub returns : goal.returns
-returns c =
-    wrote-same (reason-9 _ c.if-number-eq6.false c.if-number-eq7.false c.if-number-eq8.false) c.bytes-2.ensures
+pub returns-in_default : goal.returns-in_default
+returns-in_default c =
+    prints-same (other-reason _ c.in_default.not-MalformedLine c.in_default.not-NumberOutOfRange c.in_default.not-UnreadableRow) c.bytes-in_default.ensures

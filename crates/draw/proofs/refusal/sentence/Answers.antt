@@ -1,13 +1,8 @@
-use Prim.Native.Nat.{◌≤◌}
-use lib.ListN.{length}
-use native.Mathlib.Omega.{arith}
-use Rattle.print.specs.Printed.{top}
-use Rattle.print.proofs.Writing.{wrote_then}
+use Rattle.print.proofs.Writing.{prints_then}
 use Rattle.draw.proofs.refusal.sentence.Goals as goal
 
 pub returns : goal.returns
 returns c =
-    let room : length c.args.out.now ≤ top = omega (arith, c.well_formed.1.1.1.0) in
-    let front = wrote_then room (wrote_then room c.bytes-named.ensures c.place-placed.ensures) c.bytes-by.ensures in
-    let number = wrote_then room (wrote_then room front c.decimal-numbered.ensures) c.bytes-colon.ensures in
-    wrote_then room (wrote_then room number c.reason-end.ensures) c.byte.ensures
+    let front = prints_then (prints_then c.bytes.ensures c.place.ensures) c.bytes-2.ensures in
+    let numbered = prints_then (prints_then front (rw (c.from.ensures, c.number.ensures.value) at c.decimal.ensures)) c.bytes-3.ensures in
+    prints_then (prints_then numbered c.reason.ensures) c.byte.ensures
