@@ -20,7 +20,7 @@ mod event;
 pub mod tally;
 
 // Where a capture stands, and what was tallied so far.
-#[derive(Clone, Copy)]
+#[derive(Clone, Copy, Debug, PartialEq, Eq, Hash)]
 pub struct Course {
     pub capture: Capture,
     pub tally: Tally,
