@@ -3,38 +3,27 @@
 // is bad. The capture is the file that the argument names, or standard input; it is never held as a whole.
 #![tactic(auto)]
 
-use program_io::Input;
 use program_io::reading::Source;
 
-const USAGE: [u8; 15] = *b"state [CAPTURE]";
-
-fn state(rt: &HostRuntime, source: &mut Source, name: &[u8], named: usize) {
+// `title` is what a message about the capture begins with.
+fn state(rt: &HostRuntime, source: &mut Source, title: &[u8]) {
     let mut memory = [0u8; 1717];
     let mut writers = [0u64; 1717];
     let followed = trace_file::follow(rt, b"state", source, false, &mut memory, &mut writers);
-    let end = followed.end;
-    let tally = followed.tally;
     if let Some(error) = followed.failed {
-        program_io::fail(rt, name, named, error);
+        program_io::say_error(rt, title, error);
         return;
     }
-    let mut out = program_io::buffer();
-    let length = chip_text::chip_text(end, tally, &mut out).length();
-    program_io::put(rt, b"state", &out, length);
+    let mut out = program_io::room::<4096>();
+    let printed = chip_text::chip_text(followed.end, followed.tally, &mut out);
+    program_io::put_text(rt, b"state", &out, printed);
 }
 
 fn main(rt: HostRuntime) {
-    if program_io::helped(&rt, b"state", &USAGE) {
-        return;
-    }
-    if program_io::is_given(&rt, 2) {
-        program_io::wrong_call(&rt, b"state", b"too many arguments", &USAGE);
-        return;
-    }
-    let mut name = program_io::large_buffer();
-    let Input { source, named } = program_io::open_input(&rt, b"state", 1, &mut name);
-    let Some(mut source) = source else {
-        return;
-    };
-    state(&rt, &mut source, &name, named);
+    program_io::on_one_input(
+        &rt,
+        b"state",
+        b"state [CAPTURE]",
+        |source, title| state(&rt, source, title),
+    );
 }
