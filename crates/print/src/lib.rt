@@ -1,5 +1,5 @@
-// Text written into a buffer at a place: bytes, and numbers in decimal. Each writer stores what the buffer has places for and gives the
-// place after all of its bytes, so that a result above the length shows that there was no room, and how much is needed.
+// Text printed into a buffer: bytes, and numbers in decimal. What the buffer has places for is stored, and the place after all of the bytes is kept, so
+// that one above the length shows that there was no room, and how much is needed.
 #![tactic(auto)]
 
 ghost use Rattle.std.specs.Prelude.{[], ◌∷◌, ◌++◌, ◌≡◌, ◌+◌, ◌≤◌, List, ℕ, length};
@@ -16,106 +16,6 @@ pub enum Written {
     Text(usize),
     Short(usize),
     Refused(u8),
-}
-
-impl Written {
-    // The refusal's number: `short` where the output is too short, which each kind of text numbers for itself; 0 where the text was written.
-    pub fn number(self, short: u8) -> u8
-        ensures { result ≡ written_number short self }
-    {
-        match self {
-            Written::Text(_) => 0,
-            Written::Short(_) => short,
-            Written::Refused(n) => n,
-        }
-    }
-
-    // The length of the text that was written or would need to be.
-    pub fn length(self) -> usize
-        ensures { result ≡ written_length self }
-    {
-        match self {
-            Written::Text(n) => n,
-            Written::Short(n) => n,
-            Written::Refused(_) => 0,
-        }
-    }
-}
-
-// The next place. The largest number of all is no place of a buffer, and stays.
-fn after(at: usize) -> usize
-    ensures { result ≡ place_after at 1 }
-{
-    if at < 18446744073709551615 {
-        at + 1
-    } else {
-        at
-    }
-}
-
-// One byte.
-pub fn byte(b: u8, out: &mut [u8], at: usize) -> usize
-    ensures { Wrote out.old at (b ∷ []) out.new result }
-{
-    if at < out.len() {
-        out[at] = b;
-        return at + 1;
-    }
-    after(at)
-}
-
-// All of these bytes.
-pub fn bytes(s: &[u8], out: &mut [u8], at: usize) -> usize
-    ensures { Wrote out.old at s.now out.new result }
-{
-    let mut next = at;
-    let mut i = 0;
-    while i < s.len() {
-        next = byte(s[i], out, next);
-        i += 1;
-    }
-    next
-}
-
-// The number n in decimal: the digits of n / 10, then the last one.
-pub fn decimal(n: u64, out: &mut [u8], at: usize) -> usize
-    ensures { Wrote out.old at (decimal_of n) out.new result }
-{
-    if n < 10 {
-        return byte(48 + n as u8, out, at);
-    }
-    let next = decimal(n / 10, out, at);
-    byte(48 + (n % 10) as u8, out, next)
-}
-
-// The number n, and the byte that parts it from what follows.
-pub fn field(n: u64, end: u8, out: &mut [u8], at: usize) -> usize
-    ensures { Wrote out.old at (decimal_of n ++ end ∷ []) out.new result }
-{
-    let next = decimal(n, out, at);
-    byte(end, out, next)
-}
-
-// A line: a name, a tab and a number.
-pub fn named_line(name: &[u8], n: u64, out: &mut [u8], at: usize) -> usize
-    ensures { Wrote out.old at (named_line name.now n) out.new result }
-{
-    let after_name = bytes(name, out, at);
-    let after_tab = byte(b'\t', out, after_name);
-    field(n, b'\n', out, after_tab)
-}
-
-// The sum n + k in decimal, also where no machine word holds it: k is carried into the tens first.
-pub fn decimal_plus(n: u64, k: u8, out: &mut [u8], at: usize) -> usize
-    ensures { Wrote out.old at (decimal_of (n + k)) out.new result }
-{
-    let units = n % 10 + k as u64;
-    let tens = n / 10 + units / 10;
-    if tens == 0 {
-        return byte(48 + units as u8, out, at);
-    }
-    let next = decimal(tens, out, at);
-    byte(48 + (units % 10) as u8, out, next)
 }
 
 // A buffer that text is printed into, and the place after what was printed. The buffer takes what it has places for; the place goes on.

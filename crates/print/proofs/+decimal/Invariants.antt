@@ -1,5 +1,0 @@
-use Rattle.print.proofs.+decimal.Given as goal
-
--- proposed from what the function passes where it calls itself
-abbrev pub decreases-decimal : goal.decreases-decimal
-decreases-decimal l = l.n
