@@ -1,6 +1,6 @@
 -- A chip's record in words, and what the bus has seen: the registers by name, then pins, status byte, last RS and phase, the event count, how many bytes
 -- were acknowledged, and how many pixels have each value.
-use Rattle.std.specs.Prelude.{Bool, true, false, cond, List, [], ◌∷◌, ◌++◌, ℕ, get_or}
+use Rattle.std.specs.Prelude.{Bool, true, false, cond, List, [], ◌∷◌, ◌++◌, ℕ, Result, Ok, Err, get_or}
 use Rattle.registers.specs.declared.Chip.{Chip}
 use Rattle.registers.specs.declared.Phase.{Phase}
 use Rattle.registers.specs.declared.PixelCounts.{PixelCounts}
@@ -83,8 +83,8 @@ abbrev pub chip_text : Chip → ℕ → Tally → List ℕ
 chip_text c n t = record_lines c ++ (bus_lines c n t ++ pixel_lines c.pixels)
 
 -- of a capture that came to an end and was tallied so: the answer, and the buffer. 2: a record that is not allowed
-unfoldable pub chip_text_call : End → Tally → List ℕ → Output
-chip_text_call (ends.Refused k) t out = refused_call [] (ends.Refused k) out
-chip_text_call ends.BadFirst t out = refused_call [] ends.BadFirst out
-chip_text_call (ends.Bad c n) t out = refused_call [] (ends.Bad c n) out
-chip_text_call (ends.Whole c n) t out = whole_text (record_refusal c) (chip_text c n t) out
+unfoldable pub chip_text_call : Result End ℕ → Tally → List ℕ → Output
+chip_text_call (Err k) t out = refused_call [] (Err k) out
+chip_text_call (Ok ends.BadFirst) t out = refused_call [] (Ok ends.BadFirst) out
+chip_text_call (Ok (ends.Bad c n)) t out = refused_call [] (Ok (ends.Bad c n)) out
+chip_text_call (Ok (ends.Whole c n)) t out = whole_text (record_refusal c) (chip_text c n t) out

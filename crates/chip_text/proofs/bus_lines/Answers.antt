@@ -1,8 +1,7 @@
-use native.Mathlib.Omega.{arith}
-use Rattle.chip_text.proofs.CodeWays.{bus-wrote}
+use Rattle.print.proofs.Writing.{prints_then}
+use Rattle.chip_text.specs.ChipText.{bus_lines}
 use Rattle.chip_text.proofs.bus_lines.Goals as goal
 
 pub returns : goal.returns
-returns c =
-    bus-wrote _ _ _ (omega (arith, c.well_formed.1.1.1.0)) c.phase_line-after_phase.ensures c.named_line-after_count.ensures c.named_line-after_yes.ensures
-    c.named_line.ensures
+unfolding bus_lines
+returns c = prints_then c.phase_line.ensures (prints_then c.named_line.ensures (prints_then c.named_line-2.ensures c.named_line-3.ensures))

@@ -1,8 +1,10 @@
-use native.Mathlib.Omega.{arith}
-use Rattle.chip_text.proofs.CodeWays.{pixels-wrote}
+use Rattle.print.proofs.Writing.{prints_then}
+use Rattle.chip_text.specs.ChipText.{pixel_lines}
 use Rattle.chip_text.proofs.pixel_lines.Goals as goal
 
 pub returns : goal.returns
+unfolding pixel_lines
 returns c =
-    pixels-wrote _ (omega (arith, c.well_formed.1.0)) c.named_line-after_zeros.ensures c.named_line-after_ones.ensures
-    c.named_line-after_twos.ensures c.named_line.ensures
+    prints_then (rw c.from.ensures at c.named_line.ensures)
+    (prints_then (rw c.from-2.ensures at c.named_line-2.ensures)
+    (prints_then (rw c.from-3.ensures at c.named_line-3.ensures) (rw c.from-4.ensures at c.named_line-4.ensures)))

@@ -1,8 +1,12 @@
-use native.Mathlib.Omega.{arith}
-use Rattle.chip_text.proofs.CodeWays.{record-wrote}
+use mathlib.Core.Path.{ap}
+use borrow.Author.Rules.{rules}
+use Rattle.print.proofs.Writing.{prints_then, prints-same}
+use Rattle.chip_text.specs.ChipText.{register_lines, record_lines}
 use Rattle.chip_text.proofs.record_lines.Goals as goal
 
 pub returns : goal.returns
+unfolding record_lines
 returns c =
-    record-wrote _ (omega (arith, c.well_formed.1.0)) c.bytes-values.ensures c.bit.ensures c.register_lines-after_registers.ensures
-    c.named_line-after_pins.ensures c.named_line-after_status.ensures c.named_line.ensures
+    prints_then (prints-same (ap register_lines c.bytes.ensures) c.register_lines.ensures)
+    (prints_then (rw c.from.ensures at c.named_line.ensures)
+    (prints_then (rw c.from-2.ensures at c.named_line-2.ensures) (search rules)))

@@ -1,26 +1,19 @@
+use mathlib.Core.Path.{◌≡◌, ap}
+use Prim.Native.Nat.{ℕ}
 use native.Mathlib.Omega.{arith}
-use Rattle.print.proofs.Writing.{wrote-next, parts-turn, parts-end}
-use Rattle.chip_text.specs.ChipText.{register_lines}
-use borrow.Author.Rules.{rules}
+use Rattle.print.specs.Printed.{parts_from}
+use Rattle.print.proofs.Writing.{prints_none, prints-part, prints-same}
+use Rattle.chip_text.specs.ChipText.{register_line_at, register_lines}
 use Rattle.chip_text.proofs.register_lines.Goals as goal
 
-pub loop-k-init : goal.loop-k-init
-unfolding register_lines
-loop-k-init c = (
-  search rules,
-  search rules,
-  search rules,
-  λ l j w. w,
-)
+pub loop-place-init : goal.loop-place-init
+loop-place-init c = prints_none _ (omega arith)
 
-pub loop-k-preserved : goal.loop-k-preserved
-loop-k-preserved c = (
-  search rules,
-  wrote-next c.register-next.ensures,
-  search rules,
-  λ l j w. c.loop-k.invariant.3 l j
-      (parts-turn _ _ _ c.loop-k-test.true (omega arith) c.register-next.ensures w),
-)
+pub loop-place-preserved : goal.loop-place-preserved
+loop-place-preserved c = prints-part (register_line_at c.args.values.now) c.loop-place.place c.loop-place.invariant c.register.ensures
 
 pub returns : goal.returns
-returns c = c.loop-k.invariant.3 _ _ (parts-end _ _ _ _ _ (omega arith) c.loop-k-test.false)
+unfolding register_lines
+returns c =
+    let all : c.loop-place.place ≡ 29 = omega arith in
+    prints-same (ap (λ (k : ℕ). parts_from (register_line_at c.args.values.now) 0 k) all) c.loop-place.invariant
