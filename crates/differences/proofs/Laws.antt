@@ -12,9 +12,8 @@ use lib.ListN.{get_or}
 use Rattle.registers.specs.Record.{values}
 use Rattle.registers.specs.State.{State, places}
 use Rattle.text.specs.Text.{bytes}
-use Rattle.print.specs.declared.Written.TheVariants.{Refused}
+use Rattle.print.specs.Printed.{Refused, decimal_of, output, whole_text, NumberSays}
 use Rattle.print.specs.Chosen.{chosen_from, lines_of, InOrder}
-use Rattle.print.specs.Printed.{decimal_of, output, whole_text, NumberSays}
 use Rattle.print.proofs.Chosen.{so-not-same, so-same, chosen-exactly, none-chosen, one-chosen, chosen-in-order, chosen-mapped, told-by-members}
 use Rattle.print.proofs.Laws.{number-says, refused-by-1}
 use Rattle.capture.specs.declared.End.{End}

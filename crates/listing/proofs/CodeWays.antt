@@ -11,11 +11,10 @@ use Rattle.refusals.specs.declared.Refusal.{Refusal}
 use Rattle.refusals.specs.Numbers.{number, numbered}
 use Rattle.refusals.proofs.Positive.{positive}
 use Rattle.registers.specs.declared.Chip.{Chip}
-use Rattle.print.specs.declared.Written.TheVariants.{Text, Refused}
+use Rattle.print.specs.Printed.{Text, Refused, parts_from, Output, output, whole_text}
 use Rattle.print.specs.declared.Unprinted.{Unprinted}
 use Rattle.print.specs.declared.Unprinted.TheVariants as unprinted
 use Rattle.print.specs.declared.Printout.{Printout}
-use Rattle.print.specs.Printed.{parts_from, Output, output, whole_text}
 use Rattle.print.specs.Prints.{Prints, written_of}
 use Rattle.print.proofs.Writing.{prints_then, prints-same, parts-split}
 use Rattle.capture.specs.declared.End.{End}

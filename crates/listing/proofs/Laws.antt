@@ -9,9 +9,8 @@ use lib.ListN.{get_or, length}
 use Rattle.registers.specs.Refusals.{lengths_refusal}
 use Rattle.registers.specs.State.{State, state, places}
 use Rattle.text.specs.Text.{bytes}
-use Rattle.print.specs.declared.Written.TheVariants.{Refused}
+use Rattle.print.specs.Printed.{Refused, decimal_of, whole_text, NumberSays}
 use Rattle.print.specs.Chosen.{chosen_from, InOrder}
-use Rattle.print.specs.Printed.{decimal_of, whole_text, NumberSays}
 use Rattle.print.proofs.Chosen.{so-not-same, so-same, chosen-exactly, one-chosen, chosen-in-order}
 use Rattle.print.proofs.Laws.{number-says, refused-by-1}
 use Rattle.chip.specs.Promised.{Fit}

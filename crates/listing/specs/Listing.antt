@@ -3,9 +3,8 @@ use Rattle.std.specs.Prelude.{Bool, not, cond, List, [], ◌∷◌, ◌++◌, �
 use Rattle.registers.specs.Refusals.{lengths_refusal}
 use Rattle.registers.specs.State.{places}
 use Rattle.text.specs.Text.{bytes}
-use Rattle.print.specs.declared.Written.{Written}
+use Rattle.print.specs.Printed.{Written, decimal_of, Output, whole_text, written_number}
 use Rattle.print.specs.Chosen.{chosen_at, chosen_from, lines_of, line}
-use Rattle.print.specs.Printed.{decimal_of, Output, whole_text, written_number}
 
 -- ---- the cells
 

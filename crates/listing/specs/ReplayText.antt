@@ -1,8 +1,7 @@
 -- What is printed of a capture: the listing where it was replayed, the one line where it was refused.
 use Rattle.std.specs.Prelude.{List, [], ℕ, zero, suc, Result, length}
 use Rattle.registers.specs.Refusals.{lengths_refusal}
-use Rattle.print.specs.declared.Written.TheVariants.{Refused}
-use Rattle.print.specs.Printed.{Output, output, whole_text}
+use Rattle.print.specs.Printed.{Refused, Output, output, whole_text}
 use Rattle.capture.specs.declared.End.{End}
 use Rattle.capture.specs.Feeding.{meaning}
 use Rattle.capture.specs.Replay.{Replay, refused_by, refused_at, replayed}

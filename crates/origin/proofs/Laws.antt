@@ -14,8 +14,7 @@ use Rattle.glass.specs.Glass.{cell_of}
 use Rattle.glass.specs.When.{OnGlass, PlaceWhen}
 use Rattle.glass.proofs.Laws.{place-refused-when}
 use Rattle.text.specs.Text.{bytes}
-use Rattle.print.specs.declared.Written.TheVariants.{Refused}
-use Rattle.print.specs.Printed.{decimal_of, Output, whole_text, NumberSays}
+use Rattle.print.specs.Printed.{Refused, decimal_of, Output, whole_text, NumberSays}
 use Rattle.print.proofs.Laws.{number-says, refused-exactly}
 use Rattle.chip.specs.Promised.{Fit}
 use Rattle.capture.specs.declared.End.{End}

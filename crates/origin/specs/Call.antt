@@ -3,9 +3,7 @@ use Rattle.std.specs.Prelude.{List, [], ℕ, Result, Ok, Err, length}
 use Rattle.registers.specs.declared.Chip.{Chip}
 use Rattle.registers.specs.Refusals.{lengths_refusal}
 use Rattle.glass.specs.Glass.{cell_of}
-use Rattle.print.specs.declared.Written.{Written}
-use Rattle.print.specs.declared.Written.TheVariants.{Refused}
-use Rattle.print.specs.Printed.{Output, output, whole_text, written_number}
+use Rattle.print.specs.Printed.{Written, Refused, Output, output, whole_text, written_number}
 use Rattle.capture.specs.declared.End.{End}
 use Rattle.capture.specs.Feeding.{meaning}
 use Rattle.capture.specs.Replay.{Replay, refused_by, refused_at, replayed}

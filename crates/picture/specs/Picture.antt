@@ -6,8 +6,7 @@ use Rattle.glass.specs.declared.answer.Shown.{Shown}
 use Rattle.glass.specs.declared.answer.Shown.TheVariants as shown
 use Rattle.glass.specs.Glass.{glass_of}
 use Rattle.text.specs.Text.{bytes, join}
-use Rattle.print.specs.declared.Written.{Written}
-use Rattle.print.specs.Printed.{decimal_of, parts_from, Output, whole_text, written_number}
+use Rattle.print.specs.Printed.{Written, decimal_of, parts_from, Output, whole_text, written_number}
 use Rattle.picture.specs.declared.Colour.{Colour}
 
 -- ---- colours

@@ -11,8 +11,7 @@ use lib.Dec.{leb}
 use lib.ListN.{length, take}
 use lib.Seq.{sets}
 use Rattle.text.proofs.Laws.{IsNumber}
-use Rattle.print.specs.declared.Written.TheVariants.{Text, Short, Refused}
-use Rattle.print.specs.Printed.{IsDecimalOf, decimal_of, written_number, written_length, Output, output, whole_text, NumberSays}
+use Rattle.print.specs.Printed.{Text, Short, Refused, IsDecimalOf, decimal_of, written_number, written_length, Output, output, whole_text, NumberSays}
 use Rattle.print.proofs.Digits.{decimal-denotes, denotes-decimal, decimal-short}
 use Rattle.print.proofs.Writing.{wrote-read}
 

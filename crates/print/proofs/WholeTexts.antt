@@ -11,10 +11,9 @@ use Rattle.std.specs.Result.{IsErrAnd}
 use Rattle.refusals.specs.Numbers.{number}
 use Rattle.refusals.specs.declared.Refusal.{Refusal}
 use Rattle.refusals.proofs.Positive.{positive}
-use Rattle.print.specs.declared.Written.TheVariants.{Text, Short, Refused}
+use Rattle.print.specs.Printed.{Text, Short, Refused, top, Wrote, Output, output, whole_text}
 use Rattle.print.specs.declared.Unprinted.{Unprinted}
 use Rattle.print.specs.declared.Unprinted.TheVariants as unprinted
-use Rattle.print.specs.Printed.{top, Wrote, Output, output, whole_text}
 use Rattle.print.specs.Prints.{written_of}
 use Rattle.print.proofs.Writing.{after-fits}
 

@@ -2,8 +2,6 @@
 use Rattle.std.specs.Prelude.{Bool, true, false, cond, ◌&&◌, List, [], ◌∷◌, ◌++◌, ◌↔◌, ◌≡◌, ℕ, zero, suc, ◌+◌, ◌*◌, ◌/◌, ◌%◌, ◌-◌, ◌^◌, ◌≤◌, ◌<◌, leb, ltb, length, take}
 use Rattle.std.proofs.lemmas.List.Edits.{sets}
 use Rattle.text.specs.Decimal.{is_digit, is_leading, digit_value, digit}
-use Rattle.print.specs.declared.Written.{Written}
-use Rattle.print.specs.declared.Written.TheVariants.{Text, Short, Refused}
 
 -- ---- the digits of a number
 
@@ -62,6 +60,12 @@ parts_from f k zero = []
 parts_from f k (suc n) = f k ++ parts_from f (k + 1) n
 
 -- ---- a whole text
+
+-- how its printing ended: its length, the length that is needed where the output is shorter, or the number of a refusal
+pub data Written : Type 0 where
+  Text : ℕ → Written
+  Short : ℕ → Written
+  Refused : ℕ → Written
 
 -- the number for the answer: `short` is that of an output shorter than needed, which each kind of text gives, 0 is none
 abbrev pub written_number : ℕ → Written → ℕ

@@ -2,10 +2,9 @@
 use Rattle.std.specs.Prelude.{List, ◌≡◌, ℕ, ◌≤◌, Result, Ok, Err, length}
 use Rattle.refusals.specs.Numbers.{number}
 use Rattle.std.specs.Borrow.{MutBor}
-use Rattle.print.specs.Printed.{top, Wrote}
+use Rattle.print.specs.Printed.{top, Wrote, Written}
 use Rattle.print.specs.declared.Printout.{Printout}
-use Rattle.print.specs.declared.Written.{Written}
-use Rattle.print.specs.declared.Written.TheVariants as written
+use Rattle.print.specs.Printed as written
 use Rattle.print.specs.declared.Unprinted.{Unprinted}
 use Rattle.print.specs.declared.Unprinted.TheVariants.{Short, Refused}
 

@@ -10,14 +10,6 @@ ghost use Rattle.print.specs.Prints.{Prints, AlwaysPrints, written_of};
 
 use refusals::Refusal;
 
-// How the writing of a whole text ended: its length, the length that is needed where the output is shorter, or the number of a refusal.
-#[derive(Clone, Copy)]
-pub enum Written {
-    Text(usize),
-    Short(usize),
-    Refused(u8),
-}
-
 // A buffer that text is printed into, and the place after what was printed. The buffer takes what it has places for; the place goes on.
 #[derive(Drop)]
 pub struct Printout<'a> {
