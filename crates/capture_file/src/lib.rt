@@ -74,7 +74,7 @@ pub fn finish(fed: Result<Capture, Refusal>) -> Result<End, Refusal>
 fn read_once(source: &mut Source, capture: Capture, memory: &mut [u8], writers: &mut [u64]) -> Turn
     ensures { TurnOfSome result capture memory.new writers.new (kept capture memory.old writers.old) }
 {
-    let mut buf = program_io::large_buffer();
+    let mut buf = program_io::room::<65536>();
     let got = source.read(&mut buf);
     take_in(got, &buf, capture, memory, writers)
 }

@@ -1,5 +1,5 @@
 -- What the programs say: a message is one line that begins with the program's own name.
-use Rattle.std.specs.Prelude.{Bool, cond, ◌||◌, List, [], ◌∷◌, ◌++◌, ◌≡◌, ℕ, ◌≤◌, min, eqb, ltb, length, Option, Some, None}
+use Rattle.std.specs.Prelude.{Bool, cond, ◌||◌, List, [], ◌∷◌, ◌++◌, ◌≡◌, ℕ, ◌≤◌, min, eqb, ltb, length}
 use Rattle.std.proofs.lemmas.List.Edits.{sets}
 use Rattle.text.specs.Text.{bytes, same_bytes}
 
@@ -12,11 +12,6 @@ is_help word = same_bytes word (bytes "--help")
 -- standard input is meant
 abbrev pub is_dash : List ℕ → Bool
 is_dash word = same_bytes word (bytes "-")
-
--- a number as lists and captures write numbers; 1000, which three digits can't write, for a word that is none
-abbrev pub value_of : Option ℕ → ℕ
-value_of (Some n) = n
-value_of None = 1000
 
 -- ---- names
 

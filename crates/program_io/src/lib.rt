@@ -11,7 +11,7 @@ pub mod words;
 ghost use Rattle.std.specs.Prelude.{true, ◌≡◌, ◌≤◌, length};
 ghost use Rattle.print.specs.Printed.{written_length};
 ghost use Rattle.print.specs.Prints.{written_of};
-ghost use Rattle.program_io.specs.Promises.{NothingPromised, Opened};
+ghost use Rattle.program_io.specs.Promises.{NothingPromised};
 
 use print::Unprinted;
 use reading::Source;
@@ -33,30 +33,6 @@ pub fn room<const N: usize>() -> [u8; N]
     ensures { N ≡ length result }
 {
     [0; N]
-}
-
-// Room for a line, and for a part of an input.
-pub fn buffer() -> [u8; 4096]
-    ensures { 4096 ≡ length result }
-{
-    [0; 4096]
-}
-
-// The same where much is moved at a time.
-pub fn large_buffer() -> [u8; 65536]
-    ensures { 65536 ≡ length result }
-{
-    [0; 65536]
-}
-
-// The first n bytes of the text on standard error, where it has them. The program's own name stands at their start, and a newline at their end.
-// Where they are not taken, there is nowhere to say so.
-pub fn tell(rt: &HostRuntime, text: &[u8], n: usize)
-    ensures { NothingPromised }
-{
-    if n <= text.len() {
-        let _ = rt.stderr().write_all(&text[..n]);
-    }
 }
 
 // A text that was printed into `out`, on standard error. The program's own name stands at its start, and a newline at its end. One that had no room,
@@ -148,48 +124,6 @@ pub fn put_text(
     }
 }
 
-// A call of the system failed: the first `named` bytes of `name`, which `open_input` gave, a colon and the reason are one line on standard error.
-pub fn fail(rt: &HostRuntime, name: &[u8], named: usize, error: io::Error)
-    ensures { NothingPromised }
-{
-    let mut text = [0u8; 512];
-    let n = error_words(error, &mut text);
-    say_of(rt, name, named, reason(&text[..n]).as_bytes());
-}
-
-// One line on standard error about an input: the first `named` bytes of `name`, a colon, a blank and the message.
-pub fn say_of(rt: &HostRuntime, name: &[u8], named: usize, message: &[u8])
-    ensures { NothingPromised }
-{
-    if named <= name.len() {
-        say(rt, &name[..named], message);
-    }
-}
-
-// The first n bytes of the text on standard output. Whether all of them were taken; where not, that has been said. A text of fewer bytes is not put:
-// it had too little room, which the bounds of the texts shut out.
-pub fn put(rt: &HostRuntime, program: &[u8], text: &[u8], n: usize) -> bool
-    ensures { result ≡ true → n ≤ length text.now }
-{
-    if text.len() < n {
-        say(
-            rt,
-            program,
-            b"standard output: no room for a text of this length",
-        );
-        return false;
-    }
-    match rt.stdout().write_all(&text[..n]) {
-        Ok(()) => true,
-        Err(error) => {
-            let mut name = large_buffer();
-            let named = words::title(program, b"standard output", &mut name);
-            fail(rt, &name, named, error);
-            false
-        }
-    }
-}
-
 // Whether there is such an argument. The program's own name is argument 0.
 pub fn is_given(rt: &HostRuntime, argument: usize) -> bool
     ensures { NothingPromised }
@@ -232,18 +166,6 @@ pub fn is_standard_input(rt: &HostRuntime, argument: usize) -> bool
     }
 }
 
-// The number that an argument is, as lists and captures write numbers. 1000, which three digits can't write, for an argument that is none, or is not
-// there.
-pub fn number(rt: &HostRuntime, argument: usize) -> u16
-    ensures { NothingPromised }
-{
-    let mut word = [0u8; 4];
-    match rt.arg(argument, &mut word) {
-        Ok(n) => words::number(&word[..n]),
-        Err(_) => words::NO_NUMBER,
-    }
-}
-
 // The number that an argument is, as lists and captures write numbers. None for an argument that is none, or is not there.
 pub fn number_given(rt: &HostRuntime, argument: usize) -> Option<u16>
     ensures { NothingPromised }
@@ -251,13 +173,6 @@ pub fn number_given(rt: &HostRuntime, argument: usize) -> Option<u16>
     let mut word = [0u8; 4];
     let n = rt.arg(argument, &mut word).ok()?;
     text::decimal::number(&word[..n])
-}
-
-// An input: what is read, none where it can't be opened, which has been said; and how long its name is, the program's in front.
-#[derive(Drop)]
-pub struct Input {
-    pub source: Option<Source>,
-    pub named: usize,
 }
 
 // Why an argument could not be had.
@@ -273,54 +188,6 @@ fn open_path(rt: &HostRuntime, path: &[u8]) -> io::Result<File> {
     match str::from_utf8(path) {
         Ok(text) => File::open(rt, text),
         Err(_) => Err(io::Error::from_raw_os_error(NO_TEXT)),
-    }
-}
-
-// The file that this argument names.
-fn open_file(rt: &HostRuntime, program: &[u8], argument: usize, name: &mut [u8]) -> Input
-    ensures { Opened result name.new }
-{
-    // The longest path has 4,095 bytes.
-    let mut path = [0u8; 4095];
-    let n = match rt.arg(argument, &mut path) {
-        Ok(n) => n,
-        Err(why) => {
-            let named = words::title(program, b"the file's name", name);
-            fail(rt, name, named, no_argument(why));
-            return Input {
-                source: None,
-                named,
-            };
-        }
-    };
-    let named = words::title(program, &path[..n], name);
-    match open_path(rt, &path[..n]) {
-        Ok(file) => Input {
-            source: Some(Source::File(file)),
-            named,
-        },
-        Err(error) => {
-            fail(rt, name, named, error);
-            Input {
-                source: None,
-                named,
-            }
-        }
-    }
-}
-
-// The file that an argument names; standard input where there is no such argument or where it is `-`. `name` is given what a message begins with
-// that is about this input, for `fail`.
-pub fn open_input(rt: &HostRuntime, program: &[u8], argument: usize, name: &mut [u8]) -> Input
-    ensures { Opened result name.new }
-{
-    if !is_standard_input(rt, argument) {
-        return open_file(rt, program, argument, name);
-    }
-    let named = words::title(program, b"standard input", name);
-    Input {
-        source: Some(Source::Standard(rt.stdin())),
-        named,
     }
 }
 

@@ -1,14 +1,10 @@
 // Words and messages on slices: which words mean something, and how a line is composed. Each is an equation; `crate` hands the lines to the system.
 ghost use Rattle.std.specs.Prelude.{[], ◌∷◌, ◌≡◌};
-ghost use Rattle.text.specs.Decimal.{number_of};
 ghost use Rattle.print.specs.Prints.{Prints};
-ghost use Rattle.program_io.specs.Messages.{is_help, is_dash, value_of, shown_byte, shown_of, name_of, title_of, Began, message_of, usage_of, wrong_call_of};
+ghost use Rattle.program_io.specs.Messages.{is_help, is_dash, shown_byte, shown_of, name_of, title_of, Began, message_of, usage_of, wrong_call_of};
 
 use print::Printout;
 use text::search::equal;
-
-// What three digits can't write.
-pub const NO_NUMBER: u16 = 1000;
 
 pub fn is_help(word: &[u8]) -> bool
     ensures { result ≡ is_help word.now }
@@ -20,22 +16,6 @@ pub fn is_dash(word: &[u8]) -> bool
     ensures { result ≡ is_dash word.now }
 {
     equal(word, b"-")
-}
-
-fn value_of(number: Option<u16>) -> u16
-    ensures { result ≡ value_of number }
-{
-    match number {
-        Some(n) => n,
-        None => NO_NUMBER,
-    }
-}
-
-// The number that a word is, of 1 to 3 digits with no leading zero but for 0 itself.
-pub fn number(word: &[u8]) -> u16
-    ensures { result ≡ value_of (number_of word.now) }
-{
-    value_of(text::decimal::number(word))
 }
 
 fn shown_byte(byte: u8) -> u8
