@@ -7,6 +7,7 @@ use program_io::reading::Source;
 use refusals::Refusal;
 
 // What a capture came to, and the memories that it left.
+#[derive(Drop)]
 struct Outcome {
     end: Result<End, Refusal>,
     memory: [u8; 1717],
