@@ -6,11 +6,11 @@ import os
 import re
 from collections import Counter
 
-# docs/PORT.md tells what the port changed, and so it names what was and is no more.
-OF_OLD_NAMES = {"docs/PORT.md"}
+# docs/PORT.md and docs/DESIGN-PASS.md tell what was changed, and so they name what was and is no more.
+OF_OLD_NAMES = {"docs/PORT.md", "docs/DESIGN-PASS.md"}
 DOCUMENTS = ["README.md", *sorted(set(glob.glob("docs/*.md")) - OF_OLD_NAMES)]
 STATEMENTS, ARCHITECTURE = "docs/STATEMENTS.md", "docs/ARCHITECTURE.md"
-LEFT_OUT = {"registers", "instruction_table", "text", "print", "program_io"}
+LEFT_OUT = {"refusals", "registers", "instruction_table", "text", "print", "program_io"}
 PLACES = ["crates", "tests", "include", "samples", "examples", "bench", ".ci"]
 PLACED = re.compile(r"((?:`[^`\n]+`(?:, | and )?)+)\s+in\s+`((?:crates|tests)/[^`\n]+)`")
 WORD = re.compile(r"[A-Za-z0-9_'·-]+")
