@@ -20,6 +20,7 @@ pub mod counts_call;
 pub mod wires_call;
 
 // The number of a refusal; 0 is none.
+// kept (C interface): a host is told numbers
 fn refused_by(done: Result<(), Refusal>) -> u64
     ensures { result ≡ refused_by done }
 {

@@ -34,6 +34,7 @@ pub fn read_full(source: &mut Source, buf: &mut [u8]) -> io::Result<usize>
     ensures { IfOk result (λ n. n ≤ length buf.new) }
 {
     let mut done = 0;
+    // kept (no plainer): the place is moved on by as much as a read gave, so that no range and no iterator counts it
     while done < buf.len() {
         let n = source.read(&mut buf[done..])?;
         if n == 0 {

@@ -34,6 +34,7 @@ pub struct Step {
 
 // What was read comes to `end`, and was tallied so. `failed` is the error with which reading stopped, if it did. Where not `printed`, the lines could
 // not be put, which has been said, and nothing more was read.
+// kept (promise): FollowOfSome tells the end, the tally and the failure where the lines could not be put, too
 #[derive(Clone, Copy)]
 pub struct Followed {
     pub end: Result<End, Refusal>,
