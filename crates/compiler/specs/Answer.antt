@@ -5,7 +5,7 @@ use Rattle.compiler.specs.declared.answer.Compiled as compiled
 use Rattle.compiler.specs.declared.answer.CompileError.{CompileError}
 use Rattle.compiler.specs.declared.answer.CompileError.TheVariants as errors
 use Rattle.compiler.specs.declared.measure.Measured as measured
-use Rattle.compiler.specs.declared.measure.Fault as faults
+use Rattle.compiler.specs.declared.answer.Fault as faults
 
 pub data Compiled : Type 0 where
   Done : (length clocks : ℕ) → Compiled

@@ -4,7 +4,6 @@ ghost use Rattle.compiler.specs.declared.answer.CompileError.TheVariants.{BadLin
 ghost use Rattle.compiler.specs.Answer.{told};
 ghost use Rattle.compiler.specs.Compile.{numbers_of};
 
-use crate::measure::Fault;
 use refusals::Refusal;
 
 // How many events were written, and the bus clocks that they take, nine for each byte.
@@ -20,6 +19,13 @@ pub enum CompileError {
     Refused(Refusal),
     BadLine { refusal: Refusal, line: usize },
     Short { needed: usize },
+}
+
+// The first line that is refused, by its number from 1.
+#[derive(Clone, Copy, Debug, PartialEq, Eq)]
+pub struct Fault {
+    pub refusal: Refusal,
+    pub line: usize,
 }
 
 impl From<Fault> for CompileError {

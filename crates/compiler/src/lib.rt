@@ -17,7 +17,7 @@ use registers::{Chip, Registers};
 pub mod answer;
 mod emit;
 mod line;
-pub mod measure;
+mod measure;
 mod message;
 mod runs;
 mod setting;

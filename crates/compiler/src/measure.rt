@@ -5,8 +5,8 @@ ghost use Rattle.compiler.specs.Writes.{Tracked};
 ghost use Rattle.compiler.specs.Answer.{told_measured};
 ghost use Rattle.compiler.specs.Compile.{measure_of};
 
+use crate::answer::Fault;
 use crate::line;
-use refusals::Refusal;
 use registers::Registers;
 
 // How many events there are, and how many of them are bytes.
@@ -14,13 +14,6 @@ use registers::Registers;
 pub struct Measured {
     pub length: usize,
     pub bytes: usize,
-}
-
-// The first line that is refused, by its number from 1.
-#[derive(Clone, Copy)]
-pub struct Fault {
-    pub refusal: Refusal,
-    pub line: usize,
 }
 
 pub fn measure(text: &[u8], registers: Registers, pins: u8) -> Result<Measured, Fault>
