@@ -4,7 +4,7 @@ import project
 OUTSIDE = ["drawing", "compiler", "bus_drawing"]
 INSIDE = ["engine", "phases", "commands", "display_bytes", "display", "pixel_counts"]
 # what the chip stands on, and the compiler may see
-SHARED = ["registers", "instruction_table", "row_search", "text", "glass"]
+SHARED = ["refusals", "registers", "instruction_table", "row_search", "text", "glass"]
 
 
 def reached(crates, name):
