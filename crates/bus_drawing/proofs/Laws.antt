@@ -5,6 +5,7 @@ use mathlib.Core.Logic.{◌↔◌}
 use mathlib.Core.Path.{◌≡◌, refl, sym, ap, ◌∙◌, subst}
 use Prim.Native.Nat.{ℕ, ◌+◌, ◌<◌, ◌≤◌}
 use lib.ListN.{length}
+use Rattle.std.specs.Prelude.{Result}
 use Rattle.registers.specs.declared.Chip.{Chip}
 use Rattle.registers.specs.declared.Phase.{Phase}
 use Rattle.registers.specs.Record.{allowed, in_phase}
@@ -100,7 +101,7 @@ mid-message-is-data p b past xs ys pairs =
 -- ---- the glass
 
 -- what a device's glass shows
-abbrev pub shows : Device → ℕ → ℕ → Shown
+abbrev pub shows : Device → ℕ → ℕ → Result Shown ℕ
 shows d row column = glass_of d.chip d.memory row column
 
 -- and so does their glass
