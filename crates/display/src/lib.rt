@@ -1,7 +1,7 @@
 // Display bytes: what is stored, where, how the address counter moves on, and what comes of the pixels by value.
 #![tactic(auto)]
 
-ghost use Rattle.std.specs.Prelude.{cond, ◌≡◌, set, Some, None};
+ghost use Rattle.std.specs.Prelude.{cond, ◌≡◌, set, Ok, Err};
 ghost use Rattle.display.specs.Display.{kept, stored_of, column_of, place_of, next, next_on_wrap, next_address, pixels_fit, pixels_after};
 
 use registers::entry::entry;
@@ -118,15 +118,16 @@ pub fn pixels_fit(registers: Registers, pixels: PixelCounts, memory: &[u8], byte
     pixel_counts::mending::mendable(pixels, at, entry(memory, at), stored(registers, byte))
 }
 
-// The counts after it, if they are such. They are made before the byte is stored.
+// The same, and the counts after it, as `pixel_counts` gives them. They are made before the byte is stored.
 #[tactic(auto, unfolding(crate::specs::Display::pixels_fit, crate::specs::Display::pixels_after))]
 pub fn mend(
     registers: Registers,
     pixels: PixelCounts,
     memory: &[u8],
     byte: u8,
-) -> Option<PixelCounts>
-    ensures { result ≡ cond (pixels_fit registers pixels memory.now byte) (Some (pixels_after registers pixels memory.now byte)) None }
+) -> Result<PixelCounts, PixelCounts>
+    ensures { result ≡ cond (pixels_fit registers pixels memory.now byte) (Ok (pixels_after registers pixels memory.now byte))
+        (Err (pixels_after registers pixels memory.now byte)) }
 {
     let at = place(registers);
     pixel_counts::mending::mend(pixels, at, entry(memory, at), stored(registers, byte))

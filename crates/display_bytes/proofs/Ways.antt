@@ -9,9 +9,8 @@ use borrow.Author.Tests.{ltb-true, ltb-false, lt-ltb, le-ltb, eq-eqb, ne_eqb}
 use lib.Dec.{eqb, ltb}
 use lib.ListN.{length, get_or, drop, set, take}
 use lib.Seq.{drop-cons, drop-length}
-use Rattle.std.specs.Prelude.{Option, Some, None}
+use Rattle.std.specs.Prelude.{Result, Ok, Err}
 use Rattle.std.proofs.lemmas.List.{get_or-take, length-take-le}
-use Rattle.std.proofs.lemmas.Option.{cond_some, none-some}
 use Rattle.registers.specs.declared.PixelCounts.{PixelCounts}
 use Rattle.registers.specs.declared.Registers.{Registers}
 use Rattle.display.specs.Display.{stored_of, place_of, next_address, pixels_fit, pixels_after}
@@ -143,24 +142,31 @@ module _ (es : List ℕ) (end k : ℕ) (inside : end ≤ length es) where
   pub part-event : k < end → get_or (take end es) k 0 ≡ get_or es k 0
   part-event h = get_or-take end es k 0 h
 
--- ---- event e is byte b, and the code made x of the counts: those after it, if it is taken
+-- ---- event e is byte b, and the code made x of the counts: those after it, and whether it is taken
 
-module _ (e b : ℕ) (r : Registers) (n : PixelCounts) (m : List ℕ) (count : ℕ) (x : Option PixelCounts) (is : b ≡ e) (byte : e < 256) (room : count + 1 < 2 ^ 64)
-    (made : x ≡ cond (pixels_fit r n m b) (Some (pixels_after r n m b)) None) where
+module _ (e b : ℕ) (r : Registers) (n : PixelCounts) (m : List ℕ) (count : ℕ) (x : Result PixelCounts PixelCounts) (is : b ≡ e) (byte : e < 256)
+    (room : count + 1 < 2 ^ 64) (made : x ≡ cond (pixels_fit r n m b) (Ok (pixels_after r n m b)) (Err (pixels_after r n m b))) where
   told : (t : Bool) → pixels_fit r n m b ≡ t → taken e r n m count ≡ t
   told t q = byte-told e r n m count t byte room (sym q ∙ ap (λ (y : ℕ). pixels_fit r n m y) is)
 
-  pub made-none : x ≡ None → taken e r n m count ≡ false
-  made-none none = go (pixels_fit r n m b) refl made
+  pub made-none : (n' : PixelCounts) → x ≡ Err n' → taken e r n m count ≡ false
+  made-none n' none = go (pixels_fit r n m b) refl made
     where
-      go : (t : Bool) → pixels_fit r n m b ≡ t → x ≡ cond t (Some (pixels_after r n m b)) None → taken e r n m count ≡ false
-      go true q h = absurd (none-some _ (sym none ∙ h))
+      go : (t : Bool) → pixels_fit r n m b ≡ t → x ≡ cond t (Ok (pixels_after r n m b)) (Err (pixels_after r n m b)) → taken e r n m count ≡ false
+      go true q h = let clash : Err n' ≡ Ok (pixels_after r n m b) = sym none ∙ h in cc
       go false q h = told false q
 
-  pub made-some : (n' : PixelCounts) → x ≡ Some n' → (taken e r n m count ≡ true) × (n' ≡ pixels_after r n m e)
-  made-some n' some =
-      let fit = cond_some (pixels_fit r n m b) (pixels_after r n m b) n' (sym made ∙ some) in
-      (told true fit.0, sym fit.1 ∙ ap (λ (y : ℕ). pixels_after r n m y) is)
+  pub made-some : (n' : PixelCounts) → x ≡ Ok n' → (taken e r n m count ≡ true) × (n' ≡ pixels_after r n m e)
+  made-some n' some = go (pixels_fit r n m b) refl made
+    where
+      go :
+          (t : Bool) → pixels_fit r n m b ≡ t → x ≡ cond t (Ok (pixels_after r n m b)) (Err (pixels_after r n m b))
+          → (taken e r n m count ≡ true) × (n' ≡ pixels_after r n m e)
+      go true q h =
+          let both : Ok n' ≡ Ok (pixels_after r n m b) = sym some ∙ h in
+          let same : n' ≡ pixels_after r n m b = cc in
+          (told true q, same ∙ ap (λ (y : ℕ). pixels_after r n m y) is)
+      go false q h = let clash : Ok n' ≡ Err (pixels_after r n m b) = sym some ∙ h in cc
 
 -- ---- the room in the count
 

@@ -40,7 +40,7 @@ pub fn bytes(
         let Ok(byte) = u8::try_from(*event) else {
             return ended(done, at, shown);
         };
-        let Some(mended) = display::mend(at, shown, memory, byte) else {
+        let Ok(mended) = display::mend(at, shown, memory, byte) else {
             return ended(done, at, shown);
         };
         shown = mended;

@@ -1,5 +1,5 @@
 // The counts mended where one byte takes the place of another: the pixels of the old byte leave, those of the new one join.
-ghost use Rattle.std.specs.Prelude.{cond, ◌≡◌, Some, None};
+ghost use Rattle.std.specs.Prelude.{cond, ◌≡◌, Ok, Err};
 ghost use Rattle.pixel_counts.specs.Mending.{fits, moved, all_fit, all_moved, mendable, mended};
 
 use crate::shown::shown;
@@ -50,16 +50,17 @@ pub fn mendable(pixels: PixelCounts, place: usize, old: u8, new: u8) -> bool
     all_fit(pixels, shown(place, old), shown(place, new))
 }
 
-// The counts of the four values then, if they do: the bytes are looked at once for both.
+// The same, and the counts then: the bytes are looked at once for both. Where some count does not fit, it is in the error as it was.
 #[tactic(auto, unfolding(crate::specs::Mending::mendable, crate::specs::Mending::mended))]
-pub fn mend(pixels: PixelCounts, place: usize, old: u8, new: u8) -> Option<PixelCounts>
-    ensures { result ≡ cond (mendable pixels place old new) (Some (mended pixels place old new)) None }
+pub fn mend(pixels: PixelCounts, place: usize, old: u8, new: u8) -> Result<PixelCounts, PixelCounts>
+    ensures { result ≡ cond (mendable pixels place old new) (Ok (mended pixels place old new)) (Err (mended pixels place old new)) }
 {
     let left = shown(place, old);
     let joined = shown(place, new);
+    let after = all_moved(pixels, left, joined);
     if all_fit(pixels, left, joined) {
-        Some(all_moved(pixels, left, joined))
+        Ok(after)
     } else {
-        None
+        Err(after)
     }
 }

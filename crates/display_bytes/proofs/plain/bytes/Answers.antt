@@ -24,7 +24,7 @@ returns-in_default-mend c =
     let event = part-event c.args.events.now c.args.end here.done here.invariant.0.0 inside in
     let room : here.number + 1 < 2 ^ 64 = omega (arith, inside, here.invariant.0.1, here.invariant.1.counted) in
     let none = made-none (get_or c.args.events.now here.done 0) _ _ _ _ _ _ (c.in-Ok.ensures.1 ∙ event) (omega (arith, c.in-Ok.ensures.0, event)) room c.mend.ensures in
-    stopped _ _ _ _ _ _ _ _ _ _ _ _ here.invariant.1 _ _ _ _ (omega (arith, inside, here.invariant.0.0)) (none c.in_default-mend.is)
+    stopped _ _ _ _ _ _ _ _ _ _ _ _ here.invariant.1 _ _ _ _ (omega (arith, inside, here.invariant.0.0)) (none _ c.in_default-mend.is)
     c.ended-in_default-mend.ensures.done_value c.ended-in_default-mend.ensures.x_value c.ended-in_default-mend.ensures.y_value c.ended-in_default-mend.ensures.pixels_value
 
 pub loop-done-preserved : goal.loop-done-preserved
@@ -34,7 +34,7 @@ loop-done-preserved c =
     let event = part-event c.args.events.now c.args.end here.done here.invariant.0.0 inside in
     let room : here.number + 1 < 2 ^ 64 = omega (arith, inside, here.invariant.0.1, here.invariant.1.counted) in
     let byte = c.in-Ok.ensures.1 ∙ event in
-    let some = made-some (get_or c.args.events.now here.done 0) _ _ _ _ _ _ byte (omega (arith, c.in-Ok.ensures.0, event)) room c.mend.ensures _ c.in-Some.is in (
+    let some = made-some (get_or c.args.events.now here.done 0) _ _ _ _ _ _ byte (omega (arith, c.in-Ok.ensures.0, event)) room c.mend.ensures _ c.in-Ok-mend.is in (
       here.invariant.0,
       went_on _ _ _ _ _ _ _ _ _ _ _ _ here.invariant.1 _ _ _ _ (omega (arith, inside, here.invariant.0.0)) some.0
           c.display_byte-at.ensures.value some.1 (c.display_byte-at.ensures.memory_after ∙ rw byte) c.display_byte-at.ensures.writers_after,
