@@ -1,6 +1,6 @@
 -- Ways through the code of this crate, over plain variables.
 use mir.Val.{bool_byte}
-use mathlib.Core.Path.{◌≡◌, refl, sym, ap, ◌∙◌}
+use mathlib.Core.Path.{◌≡◌, refl, ap, ◌∙◌, subst}
 use mathlib.Core.Bool.{Bool, true, false, ◌&&◌}
 use mathlib.Core.List.{List, [], ◌∷◌, ◌++◌, append_assoc, append-nil}
 use Prim.Native.Nat.{ℕ, suc, ◌+◌, ◌<◌}
@@ -8,21 +8,17 @@ use native.Mathlib.Nat.{le_of_lt}
 use native.Mathlib.Numerals.{add-one}
 use native.Mathlib.Omega.{arith}
 use lib.Dec.{leb}
-use lib.ListN.{length, get_or, set, take, drop}
+use lib.ListN.{length, get_or, set, take, drop, length-drop}
 use lib.Seq.{drop-cons, take-suc, set_at, length-take-le}
 use Rattle.registers.specs.declared.Chip.{Chip}
 use Rattle.registers.specs.declared.Registers.{Registers}
 use Rattle.registers.specs.declared.PixelCounts.{PixelCounts}
 use Rattle.registers.specs.declared.Phase.{Phase}
 use Rattle.registers.specs.Record.{phase_rs, within, values, of_values}
-use Rattle.std.specs.Array.{IsMapOf}
-use Rattle.std.specs.Fn.{Called}
 use Rattle.std.specs.List.{list_all, zip}
-use Rattle.std.proofs.lemmas.List.{ext_get_or}
-use denote.Param.Members.{Mut}
 use Rattle.record_words.specs.Words.{record_length, pixels_of, chip_of, words_of}
 use Rattle.record_words.specs.Words.{phase_of, phase_number, bit, is_set}
-use Rattle.record_words.proofs.Stands.{in_words}
+use Rattle.record_words.proofs.Stands.{in_words, spelled}
 
 -- ---- the test of the words
 
@@ -81,22 +77,30 @@ chip-read ws b r p n k eb er ep en = rw (er ∙ ap of_values eb ∙ first-regist
 
 -- ---- the words that were written
 
--- a call that gives what it is given leaves every element of an array as it is
-pub mapped-same :
-    {F : Type 0} (g : Mut F (ℕ × Unit {0}) ℕ) (f : F) (xs ys : List ℕ) (n : ℕ) → IsMapOf g f xs ys n → length xs ≡ n
-    → ((p q : F) (x y : ℕ) → Called g p (x, tt) y q → y ≡ x) → ys ≡ xs
-mapped-same g f xs ys n h e same =
-    ext_get_or 0 ys xs (h.long ∙ sym e) (λ i l. let k = h.at i 0 0 (omega (arith, h.long)) in same _ _ _ _ k.2)
+pub registers-written : (r : Registers) (b ws l : List ℕ) (i : ℕ) → i ≡ 29 → b ≡ values r → l ≡ copied b ws i → l ≡ values r ++ drop 29 ws
+registers-written r b ws l i ei eb el = el ∙ rw (ei, eb)
 
 pub bit_byte : (t : Bool) → bool_byte t ≡ bit t
 bit_byte true = refl
 bit_byte false = refl
 
--- the registers' words, then the nine behind them
+-- nine stores into the words behind the registers
+abbrev nine : List ℕ → ℕ → ℕ → ℕ → ℕ → ℕ → ℕ → ℕ → ℕ → ℕ → List ℕ
+nine l a b c d e f g h i = set (set (set (set (set (set (set (set (set l 0 a) 1 b) 2 c) 3 d) 4 e) 5 f) 6 g) 7 h) 8 i
+
+nine-stored : (l : List ℕ) → length l ≡ 9 → (a b c d e f g h i : ℕ) → nine l a b c d e f g h i ≡ a ∷ b ∷ c ∷ d ∷ e ∷ f ∷ g ∷ h ∷ i ∷ []
+nine-stored l n a b c d e f g h i = subst (λ (m : List ℕ). nine m a b c d e f g h i ≡ a ∷ b ∷ c ∷ d ∷ e ∷ f ∷ g ∷ h ∷ i ∷ []) (spelled 9 l n) refl
+
+-- the registers' words stand, then the nine behind them are stored
 pub written :
-    (c : Chip) (l m : List ℕ) (pins status last phase rs n0 n1 n2 n3 : ℕ)
-    → l ≡ values c.registers → m ≡ pins ∷ status ∷ last ∷ phase ∷ rs ∷ n0 ∷ n1 ∷ n2 ∷ n3 ∷ []
+    (c : Chip) (ws l : List ℕ) (pins status last phase rs n0 n1 n2 n3 : ℕ)
+    → length ws ≡ record_length → l ≡ values c.registers ++ drop 29 ws
     → pins ≡ c.pins → status ≡ c.status → last ≡ bit c.last_rs → phase ≡ phase_number c.phase → rs ≡ bit (phase_rs c.phase)
-    → n0 ≡ c.pixels.zeros → n1 ≡ c.pixels.ones → n2 ≡ c.pixels.twos → n3 ≡ c.pixels.threes → l ++ m ≡ words_of c
+    → n0 ≡ c.pixels.zeros → n1 ≡ c.pixels.ones → n2 ≡ c.pixels.twos → n3 ≡ c.pixels.threes
+    → set (set (set (set (set (set (set (set (set l 29 pins) 30 status) 31 last) 32 phase) 33 rs) 34 n0) 35 n1) 36 n2) 37 n3 ≡ words_of c
 unfolding words_of
-written c l m pins status last phase rs n0 n1 n2 n3 el em ep es ea eh er e0 e1 e2 e3 = rw (el, em, ep, es, ea, eh, er, e0, e1, e2, e3)
+written c ws l pins status last phase rs n0 n1 n2 n3 n el ep es ea eh er e0 e1 e2 e3 =
+    rw (el, ep, es, ea, eh, er, e0, e1, e2, e3)
+    (ap (λ (k : List ℕ). values c.registers ++ k)
+    (nine-stored (drop 29 ws) (rw (length-drop, n)) c.pins c.status (bit c.last_rs) (phase_number c.phase) (bit (phase_rs c.phase))
+    c.pixels.zeros c.pixels.ones c.pixels.twos c.pixels.threes))

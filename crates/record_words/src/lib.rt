@@ -1,8 +1,8 @@
 // A chip's record as a host in C holds it, in words of 64 bits: whether they stand for a record, and both ways across.
 #![tactic(auto)]
 
-ghost use Rattle.std.specs.Prelude.{◌≡◌, true, length, take};
-ghost use Rattle.registers.specs.Record.{within};
+ghost use Rattle.std.specs.Prelude.{◌≡◌, true, ◌++◌, length, take, drop};
+ghost use Rattle.registers.specs.Record.{within, values};
 ghost use Rattle.record_words.specs.Words.{record_length, word_limits, stands_for, pixels_of, chip_of, words_of, read_of, stored};
 
 use registers::{Chip, PixelCounts, Registers};
@@ -87,25 +87,31 @@ pub fn read_record(words: &[u64]) -> Option<Chip>
     }
 }
 
+// Word by word: an array of words made of the bytes, and copied, takes several times as long and a call of the C library's.
+fn write_registers(registers: Registers, words: &mut [u64])
+    requires { length words.old ≡ record_length }
+    ensures { words.new ≡ values registers ++ drop 29 words.old }
+{
+    let bytes = registers.bytes();
+    for register in 0..29 {
+        words[register] = u64::from(bytes[register]);
+    }
+}
+
 fn write_all(chip: Chip, words: &mut [u64])
     requires { length words.old ≡ record_length }
     ensures { words.new ≡ words_of chip }
 {
-    let (registers, others) = words.split_at_mut(29);
-    let phase = phase::number(chip.phase);
-    let rs = u64::from(chip.phase.rs());
-    registers.copy_from_slice(&chip.registers.bytes().map(u64::from));
-    others.copy_from_slice(&[
-        u64::from(chip.pins),
-        u64::from(chip.status),
-        u64::from(chip.last_rs),
-        phase,
-        rs,
-        u64::from(chip.pixels.zeros),
-        u64::from(chip.pixels.ones),
-        u64::from(chip.pixels.twos),
-        u64::from(chip.pixels.threes),
-    ]);
+    write_registers(chip.registers, words);
+    words[29] = u64::from(chip.pins);
+    words[30] = u64::from(chip.status);
+    words[31] = u64::from(chip.last_rs);
+    words[32] = phase::number(chip.phase);
+    words[33] = u64::from(chip.phase.rs());
+    words[34] = u64::from(chip.pixels.zeros);
+    words[35] = u64::from(chip.pixels.ones);
+    words[36] = u64::from(chip.pixels.twos);
+    words[37] = u64::from(chip.pixels.threes);
 }
 
 // Writes the record's words into the host's buffer, if it has a record's length.
