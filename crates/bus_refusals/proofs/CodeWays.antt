@@ -46,14 +46,9 @@ differ-told (c ∷ cs) os a b l eo ea eb =
 
 -- the tests of four records do not look at the memories
 pub records-told :
-    (t : Bool) (cs : List Chip) (m0 w0 m1 w1 m2 w2 m3 w3 : List ℕ) → length cs ≡ 4
-    → devices_refusal_for t (records_of cs) ≡ devices_refusal_for t (four cs m0 w0 m1 w1 m2 w2 m3 w3)
-records-told t [] m0 w0 m1 w1 m2 w2 m3 w3 e = absurd (omega (arith, e))
-records-told t (a ∷ []) m0 w0 m1 w1 m2 w2 m3 w3 e = absurd (omega (arith, e))
-records-told t (a ∷ b ∷ []) m0 w0 m1 w1 m2 w2 m3 w3 e = absurd (omega (arith, e))
-records-told t (a ∷ b ∷ c ∷ []) m0 w0 m1 w1 m2 w2 m3 w3 e = absurd (omega (arith, e))
-records-told t (a ∷ b ∷ c ∷ d ∷ []) m0 w0 m1 w1 m2 w2 m3 w3 e = refl
-records-told t (a ∷ b ∷ c ∷ d ∷ x ∷ l) m0 w0 m1 w1 m2 w2 m3 w3 e = absurd (omega (arith, e))
+    (t : Bool) (ts cs : List Chip) (m0 w0 m1 w1 m2 w2 m3 w3 : List ℕ) → ts ≡ chip_at cs 0 ∷ chip_at cs 1 ∷ chip_at cs 2 ∷ chip_at cs 3 ∷ []
+    → devices_refusal_for t (records_of ts) ≡ devices_refusal_for t (four cs m0 w0 m1 w1 m2 w2 m3 w3)
+records-told t ts cs m0 w0 m1 w1 m2 w2 m3 w3 e = rw e refl
 
 -- what the code found of four chips: whether the memories are long, and whether the counts fit
 pub refusal-told :

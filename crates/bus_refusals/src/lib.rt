@@ -139,5 +139,7 @@ pub fn of_step(
         & (is_long(memory1.len(), writers1.len())
             & (is_long(memory2.len(), writers2.len()) & is_long(memory3.len(), writers3.len())));
     let fit = all_fit(event, chips, memory0, memory1, memory2, memory3);
-    in_order(event, pins, &chips, count, long, fit)
+    // The tests that go over records lend an array of their own: what is lent stands in memory, and the chips that are played need not.
+    let tested = [chips[0], chips[1], chips[2], chips[3]];
+    in_order(event, pins, &tested, count, long, fit)
 }
