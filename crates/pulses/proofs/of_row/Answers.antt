@@ -3,20 +3,25 @@ use native.Mathlib.Omega.{arith}
 use borrow.Author.Rules.{rules}
 use Rattle.print.proofs.Writing.{prints_none, prints-part, prints-same}
 use Rattle.pulses.specs.Row.{bytes_for, pixel_bytes}
-use Rattle.pulses.proofs.CodeWays.{row_written, pixels-pass}
+use Rattle.pulses.proofs.CodeWays.{row_written, ram-row-bound, pixel-passes}
 use Rattle.pulses.proofs.of_row.Goals as goal
 
 pub loop-column-init : goal.loop-column-init
 loop-column-init c = prints_none _ (omega arith)
 
-pub returns-in_err-pulses : goal.returns-in_err-pulses
-returns-in_err-pulses c =
-    absurd (pixels-pass c.args.chip c.args.memory.now c.args.row c.loop-column.column _ c.in_ok-refusal.ensures (omega arith) _ c.in_err-pulses.ensures)
+pub overflow_mul-ram : goal.overflow_mul-ram
+overflow_mul-ram c = omega (arith, ram-row-bound c.args.chip _ _ _ _ c.in_ok-refusal.ensures c.ram_row-ram.ensures)
+
+pub overflow_add-ram : goal.overflow_add-ram
+overflow_add-ram c = omega (arith, ram-row-bound c.args.chip _ _ _ _ c.in_ok-refusal.ensures c.ram_row-ram.ensures)
 
 pub loop-column-preserved : goal.loop-column-preserved
 loop-column-preserved c =
+    let pulses =
+    pixel-passes c.args.chip c.args.memory.now c.args.row c.loop-column.column _ _ _ _ _ c.in_ok-refusal.ensures (omega arith) c.ram_row-ram.ensures
+    c.entry-byte.ensures c.shown-shown.ensures c.of_shown.ensures in
     prints-part (pixel_bytes c.args.chip c.args.memory.now c.args.row) c.loop-column.column c.loop-column.invariant
-    (prints-same (ap bytes_for c.in_ok-pulses.ensures) c.write_pixel.ensures)
+    (prints-same (ap bytes_for pulses) c.write_pixel.ensures)
 
 pub returns : goal.returns
 returns c =
