@@ -9,21 +9,26 @@ use refusals::Refusal;
 // `refused`, the number, and the line, which is 0 where there is none.
 pub fn refused(rt: &HostRuntime, refusal: Refusal, line: u64) -> bool {
     let mut out = [0u8; 64];
-    let printed = print::whole(
-        |text| {
-            text.bytes(b"refused\t");
-            text.field(u64::from(refusal.number()), b'\t');
-            text.field(line, b'\n');
-        },
-        &mut out,
-    );
-    program_io::put_text(rt, b"draw", &out, printed)
+    let mut text = Printout {
+        out: &mut out,
+        at: 0,
+    };
+    text.bytes(b"refused\t");
+    text.field(u64::from(refusal.number()), b'\t');
+    text.field(line, b'\n');
+    let length = text.at;
+    program_io::put_text(rt, b"draw", &out, Ok(length))
 }
 
 pub fn first_line(rt: &HostRuntime, pins: u8) -> bool {
     let mut out = [0u8; 64];
-    let printed = print::whole(|text| text.named_line(b"pins", u64::from(pins)), &mut out);
-    program_io::put_text(rt, b"draw", &out, printed)
+    let mut text = Printout {
+        out: &mut out,
+        at: 0,
+    };
+    text.named_line(b"pins", u64::from(pins));
+    let length = text.at;
+    program_io::put_text(rt, b"draw", &out, Ok(length))
 }
 
 // One event a line.
@@ -35,9 +40,14 @@ fn lines(events: &[u16], out: &mut Printout)
     }
 }
 
-// The events of a line of the list, at most 2,727 of three digits: they have room.
+// The events of a line of the list, at most 2,727 of three digits: they have room, and so are printed once, with no measuring before.
 pub fn events(rt: &HostRuntime, events: &[u16]) -> bool {
     let mut out = [0u8; 10908];
-    let printed = print::whole(|text| lines(events, text), &mut out);
-    program_io::put_text(rt, b"draw", &out, printed)
+    let mut text = Printout {
+        out: &mut out,
+        at: 0,
+    };
+    lines(events, &mut text);
+    let length = text.at;
+    program_io::put_text(rt, b"draw", &out, Ok(length))
 }

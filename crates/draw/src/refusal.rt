@@ -49,6 +49,11 @@ fn sentence(name: &[u8], refusal: Refusal, line: u64, out: &mut Printout)
 
 pub fn explain(rt: &HostRuntime, title: &[u8], refusal: Refusal, line: u64) {
     let mut out = program_io::room::<65536>();
-    let printed = print::whole(|text| sentence(title, refusal, line, text), &mut out);
-    program_io::say_text(rt, &out, printed);
+    let mut text = Printout {
+        out: &mut out,
+        at: 0,
+    };
+    sentence(title, refusal, line, &mut text);
+    let length = text.at;
+    program_io::say_text(rt, &out, Ok(length));
 }

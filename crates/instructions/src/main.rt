@@ -154,7 +154,13 @@ fn tables(out: &mut Printout) {
 }
 
 fn main(rt: HostRuntime) {
+    // Less than 4,096 bytes.
     let mut out = program_io::room::<4096>();
-    let printed = print::whole(tables, &mut out);
-    program_io::put_text(&rt, b"instructions", &out, printed);
+    let mut text = Printout {
+        out: &mut out,
+        at: 0,
+    };
+    tables(&mut text);
+    let length = text.at;
+    program_io::put_text(&rt, b"instructions", &out, Ok(length));
 }

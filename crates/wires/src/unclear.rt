@@ -21,7 +21,12 @@ pub fn tell(rt: &HostRuntime, samples: u64) {
     if samples == 0 {
         return;
     }
-    let mut text = [0u8; 64];
-    let printed = print::whole(|out| line(samples, out), &mut text);
-    program_io::say_text(rt, &text, printed);
+    let mut out = [0u8; 64];
+    let mut text = Printout {
+        out: &mut out,
+        at: 0,
+    };
+    line(samples, &mut text);
+    let length = text.at;
+    program_io::say_text(rt, &out, Ok(length));
 }
