@@ -8,12 +8,12 @@
 pub mod reading;
 pub mod words;
 
-ghost use Rattle.std.specs.Prelude.{true, ◌≡◌, ◌≤◌, length};
+ghost use Rattle.std.specs.Prelude.{true, ◌≡◌, ◌≤◌, length, MatchOption};
 ghost use Rattle.print.specs.Printed.{written_length};
 ghost use Rattle.print.specs.Prints.{written_of};
 ghost use Rattle.program_io.specs.Promises.{NothingPromised};
 
-use print::Unprinted;
+use print::{Printout, Unprinted};
 use reading::Source;
 use std::env::FillError;
 use std::fs::File;
@@ -50,8 +50,13 @@ pub fn say(rt: &HostRuntime, title: &[u8], message: &[u8])
     ensures { NothingPromised }
 {
     let mut line = room::<65536>();
-    let printed = print::whole(|out| words::message(title, message, out), &mut line);
-    say_text(rt, &line, printed);
+    let mut text = Printout {
+        out: &mut line,
+        at: 0,
+    };
+    words::message(title, message, &mut text);
+    let length = text.at;
+    say_text(rt, &line, Ok(length));
 }
 
 // One line on standard error: what is wrong with the call, and how the program is called.
@@ -59,11 +64,13 @@ pub fn wrong_call(rt: &HostRuntime, program: &[u8], fault: &[u8], usage: &[u8])
     ensures { NothingPromised }
 {
     let mut line = room::<65536>();
-    let printed = print::whole(
-        |out| words::wrong_call(program, fault, usage, out),
-        &mut line,
-    );
-    say_text(rt, &line, printed);
+    let mut text = Printout {
+        out: &mut line,
+        at: 0,
+    };
+    words::wrong_call(program, fault, usage, &mut text);
+    let length = text.at;
+    say_text(rt, &line, Ok(length));
 }
 
 // The words of an error, as much of them as has room, and how long they are.
@@ -149,8 +156,13 @@ pub fn helped(rt: &HostRuntime, program: &[u8], usage: &[u8]) -> bool
         return false;
     }
     let mut line = room::<65536>();
-    let printed = print::whole(|out| words::usage_line(usage, out), &mut line);
-    put_text(rt, program, &line, printed);
+    let mut text = Printout {
+        out: &mut line,
+        at: 0,
+    };
+    words::usage_line(usage, &mut text);
+    let length = text.at;
+    put_text(rt, program, &line, Ok(length));
     true
 }
 
@@ -197,7 +209,9 @@ fn named_file<'a>(
     program: &[u8],
     argument: usize,
     room: &'a mut [u8],
-) -> Option<(Source, &'a [u8])> {
+) -> Option<(Source, &'a [u8])>
+    ensures { MatchOption result NothingPromised (λ found. length found.1.now ≤ length room.old) }
+{
     // The longest path has 4,095 bytes.
     let mut path = [0u8; 4095];
     let n = match rt.arg(argument, &mut path) {
@@ -219,13 +233,16 @@ fn named_file<'a>(
     }
 }
 
-// The file that an argument names; standard input where there is no such argument or where it is `-`; and the title.
-fn opened<'a>(
+// The file that an argument names; standard input where there is no such argument or where it is `-`; and the title, what a message begins with that
+// is about this input, in the room for it. None where it can't be opened, which has been said.
+pub fn open_input<'a>(
     rt: &HostRuntime,
     program: &[u8],
     argument: usize,
     room: &'a mut [u8],
-) -> Option<(Source, &'a [u8])> {
+) -> Option<(Source, &'a [u8])>
+    ensures { MatchOption result NothingPromised (λ found. length found.1.now ≤ length room.old) }
+{
     if !is_standard_input(rt, argument) {
         return named_file(rt, program, argument, room);
     }
@@ -233,8 +250,7 @@ fn opened<'a>(
     Some((Source::Standard(rt.stdin()), &room[..named]))
 }
 
-// Opens the file that an argument names, or standard input where there is no such argument or where it is `-`, and has `read` read it. `read` is told
-// the title too, what a message begins with that is about this input. What can't be opened has been said, and nothing is read.
+// Opens an input, and has `read` read it. `read` is told the title too. Where it can't be opened, nothing is read.
 pub fn with_input<F: FnOnce(&mut Source, &[u8])>(
     rt: &HostRuntime,
     program: &[u8],
@@ -245,7 +261,7 @@ pub fn with_input<F: FnOnce(&mut Source, &[u8])>(
     ensures { NothingPromised }
 {
     let mut room = room::<65536>();
-    if let Some((mut source, title)) = opened(rt, program, argument, &mut room) {
+    if let Some((mut source, title)) = open_input(rt, program, argument, &mut room) {
         read(&mut source, title);
     }
 }
