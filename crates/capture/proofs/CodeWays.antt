@@ -7,7 +7,7 @@ use native.Mathlib.Omega.{arith}
 use borrow.Author.Tests.{eq-eqb, eqb-true}
 use lib.Dec.{eqb}
 use lib.ListN.{length, get_or, drop, drop_of_length-le, length-drop}
-use Rattle.std.specs.Prelude.{Err}
+use Rattle.std.specs.Prelude.{Result, Ok, Err}
 use Rattle.refusals.specs.declared.Refusal.{Refusal}
 use Rattle.refusals.specs.Numbers.{number}
 use Rattle.refusals.proofs.Positive.{positive}
@@ -20,9 +20,10 @@ use Rattle.capture_lines.specs.declared.LineSoFar.TheVariants.{First, Pins, Empt
 use Rattle.capture_lines.specs.declared.Scanned.{Scanned}
 use Rattle.capture_lines.specs.Line.{newline}
 use Rattle.capture_lines.specs.SoFar.{with_byte, scanned_from}
+use Rattle.capture.specs.declared.Capture.{Capture}
 use Rattle.capture.specs.declared.End.{End}
 use Rattle.capture.specs.Feeding.{Playing, playing, line_after, played, ended_line, ended_past_entry, with_next, bytes_fed, line_allowed, PartFed, fed_unless}
-use Rattle.capture.specs.Feeding.{end_unless}
+use Rattle.capture.specs.Feeding.{end_unless, finish_of, finish_fed}
 use Rattle.capture.specs.Lines.{PartlyFed}
 use Rattle.capture.specs.Where.{Passed}
 use Rattle.capture.proofs.Refusals.{with-byte-allowed, ended-passed}
@@ -65,6 +66,11 @@ module _ (r : Refusal) (k : ℕ) (e : number r ≡ k) where
       go : (j : ℕ) → number r ≡ j → Err j ≡ end_unless j end
       go zero z = absurd (omega (arith, positive r))
       go (suc j) z = refl
+
+-- what is fed no more ends as it stands
+pub stands_finished :
+    {f : Result Capture Refusal} {c : Capture} {end : Result End ℕ} → f ≡ Ok c → end ≡ finish_of 0 c → end ≡ finish_fed f
+stands_finished h e = e ∙ ap finish_fed (sym h)
 
 pub part-fed : (p q : Playing) → p ≡ q → ◌≡◌ {A = PartFed} (record { refusal = 0; after = p }) (record { refusal = 0; after = q })
 part-fed p q e = rw e

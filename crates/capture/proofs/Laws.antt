@@ -4,10 +4,14 @@ use mathlib.Core.Bool.{Bool, true, false, not}
 use mathlib.Core.List.{List, [], ◌∷◌, ◌++◌, append_assoc, append-nil}
 use mathlib.Core.Logic.{◌⊎◌, inl, inr, ◌↔◌, ⊎_elim}
 use mathlib.Core.Path.{◌≡◌, refl, sym, ap, ◌∙◌, subst}
-use Prim.Native.Nat.{ℕ, zero, suc, ◌+◌, ◌≤◌}
+use Prim.Native.Nat.{ℕ, zero, suc, ◌+◌, ◌<◌, ◌≤◌}
 use native.Mathlib.Omega.{arith}
+use borrow.Author.Tests.{ne_eqb}
 use lib.Dec.{T}
 use Rattle.std.specs.Prelude.{Ok, Err}
+use Rattle.refusals.specs.declared.Refusal.{Refusal}
+use Rattle.refusals.specs.Numbers.{number}
+use Rattle.refusals.proofs.Positive.{positive}
 use Rattle.registers.specs.declared.Chip.{Chip}
 use Rattle.registers.specs.declared.PixelCounts.{PixelCounts}
 use Rattle.registers.specs.Record.{reset_chip, with_pixels}
@@ -23,7 +27,7 @@ use Rattle.capture.specs.declared.Capture.{Capture}
 use Rattle.capture.specs.declared.End.TheVariants as ends
 use Rattle.capture.specs.Cells.{zeros, start, CellAfter}
 use Rattle.capture.specs.Feeding.{Playing, playing, kept, start_of, played, ended_line, ended_past_entry, bytes_fed, capture_allowed, part_refusal, PartFed, fed, feed_of}
-use Rattle.capture.specs.Feeding.{then_fed, feed_parts, all_parts, is_over, end_of, end_unless, finish_of, meaning}
+use Rattle.capture.specs.Feeding.{then_fed, feed_parts, all_parts, is_over, is_over_at, is_over_fed, kept_refusal, end_of, end_unless, finish_of, finish_fed, meaning}
 use Rattle.capture.specs.Reading.{event_lines, capture_text}
 use Rattle.capture.specs.Replay.{Replay, refused_by, refused_at, replayed, left_by, started, replay_by, replay_of}
 use Rattle.capture.specs.Where.{Lent, PartWhen, Small, Replayed, NoFirstLine, StoppedAfter}
@@ -74,6 +78,18 @@ finish-refused-exactly k c n = go k (capture_allowed c.line c.chip)
     go zero false = (λ h. inr (refl, cc h, refl), ⊎_elim (λ h. absurd (h.1 (sym h.0))) (λ h. rw h.1))
     go (suc j) a =
         (λ h. let same : suc j ≡ n = cc h in inl (same, λ z. omega arith), ⊎_elim (λ h. rw h.0) (λ h. absurd (omega (arith, h.0))))
+
+-- of a refused part the end and whether it is over are those of its refusal's number, whatever is kept
+pub refused-finish : (r : Refusal) (c : Capture) → finish_fed (Err r) ≡ finish_of (number r) c
+unfolding finish_of
+refused-finish r c = go (number r) (positive r)
+  where
+    go : (k : ℕ) → 0 < k → Err k ≡ end_unless (k then kept_refusal c.line c.chip) (end_of c.line c.chip c.count)
+    go zero h = absurd (omega arith)
+    go (suc k) h = refl
+
+pub refused-over : (r : Refusal) (c : Capture) → is_over_fed (Err r) ≡ is_over_at (number r) c.line
+refused-over r c = rw (ne_eqb (number r) 0 (λ z. omega (arith, z, positive r)))
 
 -- a whole text is refused by a number exactly where a memory has another length, and then by 1; both memories are as they were lent
 pub replay-refused-exactly :

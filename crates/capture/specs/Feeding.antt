@@ -134,6 +134,11 @@ is_over_at k l = not (eqb k 0) || is_refused l
 abbrev pub is_over : PartFed → Bool
 is_over f = is_over_at f.refusal f.after.line
 
+-- of what a part came to: a refused one is over
+abbrev pub is_over_fed : Result Capture Refusal → Bool
+is_over_fed (Ok c) = is_over_at 0 c.line
+is_over_fed (Err r) = true
+
 -- ---- the end
 
 abbrev pub end_of : LineSoFar → Chip → ℕ → End
@@ -151,6 +156,11 @@ end_unless (suc k) e = Err (suc k)
 -- a line that is not ended by its newline is bad. k is the refusal of the last part, 0 being none; then 2 where what was kept is not allowed
 unfoldable pub finish_of : ℕ → Capture → Result End ℕ
 finish_of k c = end_unless (k then kept_refusal c.line c.chip) (end_of c.line c.chip c.count)
+
+-- of what a part came to: a refused one is refused so. `refused-finish` in proofs/Laws.antt: that is `finish_of` its number, whatever is kept
+abbrev pub finish_fed : Result Capture Refusal → Result End ℕ
+finish_fed (Ok c) = finish_of 0 c
+finish_fed (Err r) = Err (number r)
 
 -- what an end says, or the number by which it is refused, with the memories as they are then. The line of a bad event is count + 2, whatever the width of the count
 unfoldable pub meaning : Result End ℕ → List ℕ → List ℕ → Replay

@@ -3,7 +3,7 @@
 
 ghost use Rattle.std.specs.Prelude.{◌≡◌, ◌≤◌, length};
 ghost use Rattle.refusals.specs.Numbers.{numbered};
-ghost use Rattle.capture.specs.Feeding.{kept, start_of, bytes_fed, fed_by, feed_of, end_of, finish_of, is_over_at};
+ghost use Rattle.capture.specs.Feeding.{kept, start_of, bytes_fed, fed_by, feed_of, end_of, finish_fed, is_over_fed};
 ghost use Rattle.capture.specs.Lines.{PartlyFed};
 ghost use Rattle.capture.specs.Where.{Passed};
 
@@ -113,17 +113,22 @@ fn end_of(capture: Capture) -> End
     }
 }
 
-// No byte follows: a line that is not ended by its newline is bad. Refused by 2 where what was kept is not allowed.
-pub fn finish(capture: Capture) -> Result<End, Refusal>
-    ensures { numbered result ≡ finish_of 0 capture }
+// No byte follows what the last part came to: a line that is not ended by its newline is bad. Refused as that part was, or by 2 where what was kept
+// is not allowed.
+pub fn finish(fed: Result<Capture, Refusal>) -> Result<End, Refusal>
+    ensures { numbered result ≡ finish_fed fed }
 {
+    let capture = fed?;
     refusal::of_kept(capture)?;
     Ok(end_of(capture))
 }
 
-// Whether nothing that follows changes what the capture comes to: a line was refused.
-pub fn is_over(capture: Capture) -> bool
-    ensures { result ≡ is_over_at 0 capture.line }
+// Whether nothing that follows changes what the capture comes to: the last part was refused, or a line.
+pub fn is_over(fed: Result<Capture, Refusal>) -> bool
+    ensures { result ≡ is_over_fed fed }
 {
-    capture_lines::is_refused(capture.line)
+    match fed {
+        Ok(capture) => capture_lines::is_refused(capture.line),
+        Err(_) => true,
+    }
 }

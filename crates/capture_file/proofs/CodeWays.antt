@@ -2,28 +2,25 @@
 use mathlib.Core.Bool.{Bool, true, false, not, ◌&&◌}
 use mathlib.Core.List.{List, [], ◌∷◌, ◌++◌}
 use mathlib.Core.Path.{◌≡◌, refl, sym, ap, subst, ◌∙◌}
-use Prim.Native.Nat.{ℕ, zero, suc, ◌+◌, ◌<◌}
+use Prim.Native.Nat.{ℕ, ◌+◌}
 use native.Mathlib.Omega.{arith}
-use borrow.Author.Tests.{ltb-false, ne_eqb}
+use borrow.Author.Tests.{ltb-false}
 use lib.Dec.{T, ltb}
 use lib.ListN.{length}
 use Rattle.std.specs.Prelude.{Option, None, Result, Ok, Err}
 use Rattle.std.specs.declared.io.Error.{Error}
 use Rattle.refusals.specs.declared.Refusal.{Refusal}
 use Rattle.refusals.specs.Numbers.{number, numbered}
-use Rattle.refusals.proofs.Positive.{positive}
-use Rattle.registers.specs.Refusals.{◌then◌}
 use Rattle.program_io.specs.Answers.{Answer, count_of, bytes_of, text_of, last_failure, most_calls}
-use Rattle.capture_lines.specs.declared.LineSoFar.{LineSoFar}
 use Rattle.capture.specs.declared.Capture.{Capture}
 use Rattle.capture.specs.declared.End.{End}
-use Rattle.capture.specs.Feeding.{Playing, kept, start_of, PartFed, fed, fed_by, feed_of, then_fed, is_over, is_over_at, kept_refusal, end_of, end_unless, finish_of, meaning}
+use Rattle.capture.specs.Feeding.{Playing, kept, start_of, PartFed, fed, fed_by, feed_of, then_fed, is_over, finish_of, finish_fed, meaning}
 use Rattle.capture.specs.Replay.{replay_of}
 use Rattle.capture.proofs.Feeds.{fed_result, text-replayed, fed-end}
-use Rattle.capture.proofs.Laws.{cut-anywhere, rest-unread}
+use Rattle.capture.proofs.Laws.{refused-finish, refused-over, cut-anywhere, rest-unread}
 use Rattle.capture_file.specs.declared.Turn.{Turn}
 use Rattle.capture_file.specs.declared.Turn.TheVariants.{More, Last}
-use Rattle.capture_file.specs.Answers.{Turned, turned, taken_in, finish_fed}
+use Rattle.capture_file.specs.Answers.{Turned, turned, taken_in}
 use Rattle.capture_file.specs.Played.{TurnOfSome, Enough, none_given, refused_for_good, no_more_calls, ReplayOfSome}
 
 -- ---- the loop
@@ -46,10 +43,6 @@ pub begun-answers :
 unfolding begun
 begun-answers m₀ w₀ m w s c es ef = refl
 
--- a refused part is over
-refused-over : (r : Refusal) (l : LineSoFar) → is_over_at (number r) l ≡ true
-refused-over r l = rw (ne_eqb (number r) 0 (λ z. omega (arith, z, positive r)))
-
 -- there is no more: there was no byte, or the capture is refused
 enough :
     (a : Answer) (before : List Answer) (m w : List ℕ) (some over : Bool) → ltb 0 (count_of a) ≡ some
@@ -62,14 +55,6 @@ enough a before m w true false es eo h = absurd (subst T h tt)
 text-taken : (c : Capture) (m w xs ys : List ℕ) (p : Playing) → fed 0 c m w ≡ feed_of xs p → feed_of ys (kept c m w) ≡ feed_of (xs ++ ys) p
 text-taken c m w xs ys p e = ap (λ (f : PartFed). then_fed f ys) e ∙ sym (cut-anywhere xs ys p)
 
-finish-refused : (r : Refusal) (c : Capture) → Err (number r) ≡ finish_of (number r) c
-unfolding finish_of
-finish-refused r c = go (number r) (positive r)
-  where
-    go : (k : ℕ) → 0 < k → Err k ≡ end_unless (k then kept_refusal c.line c.chip) (end_of c.line c.chip c.count)
-    go zero h = absurd (omega arith)
-    go (suc k) h = refl
-
 -- what was fed comes to the replay of it
 finished :
     (f : Result Capture Refusal) (c : Capture) (m w text m₀ w₀ : List ℕ) → fed_by f c m w ≡ feed_of text (kept start_of m₀ w₀)
@@ -77,7 +62,7 @@ finished :
 finished (Ok d) c m w text m₀ w₀ h =
     fed-end text (kept start_of m₀ w₀) 0 d m w h ∙ ap fed_result h ∙ text-replayed text m₀ w₀
 finished (Err r) c m w text m₀ w₀ h =
-    ap (λ (e : Result End ℕ). meaning e m w) (finish-refused r c)
+    ap (λ (e : Result End ℕ). meaning e m w) (refused-finish r c)
     ∙ fed-end text (kept start_of m₀ w₀) (number r) c m w h
     ∙ ap fed_result h
     ∙ text-replayed text m₀ w₀
@@ -92,7 +77,7 @@ begun-refused m₀ w₀ m w s r es ef =
       answers = [];
       is_replay = finished (Err r) s m w [] m₀ w₀ here;
       is_failed = refl;
-      is_enough = refused_for_good [] (λ rest. rest-unread [] rest m₀ w₀ (ap is_over (sym here) ∙ refused-over r s.line));
+      is_enough = refused_for_good [] (λ rest. rest-unread [] rest m₀ w₀ (ap is_over (sym here) ∙ sym (refused-over r s)));
     }
 
 pub begun-refused-answers :

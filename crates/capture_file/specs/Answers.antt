@@ -1,12 +1,9 @@
 -- What a capture makes of an answer.
-use Rattle.std.specs.Prelude.{Result, Ok, Err, Bool, true, false, Option, None, not, ◌&&◌, List, ℕ, ltb}
+use Rattle.std.specs.Prelude.{Bool, true, false, Option, None, not, ◌&&◌, List, ℕ, ltb}
 use Rattle.std.specs.declared.io.Error.{Error}
-use Rattle.refusals.specs.declared.Refusal.{Refusal}
-use Rattle.refusals.specs.Numbers.{number}
 use Rattle.program_io.specs.Answers.{Answer, count_of, bytes_of, failure_of}
 use Rattle.capture.specs.declared.Capture.{Capture}
-use Rattle.capture.specs.declared.End.{End}
-use Rattle.capture.specs.Feeding.{Playing, PartFed, fed, fed_by, feed_of, is_over, finish_of}
+use Rattle.capture.specs.Feeding.{Playing, PartFed, fed, fed_by, feed_of, is_over}
 use Rattle.capture_file.specs.declared.Turn.{Turn}
 use Rattle.capture_file.specs.declared.Turn.TheVariants.{More, Last}
 
@@ -27,8 +24,3 @@ turn_of a f = record { after = f; more = ltb 0 (count_of a) && not (is_over f); 
 -- the bytes are fed
 unfoldable pub taken_in : Answer → Playing → Turned
 taken_in a p = turn_of a (feed_of (bytes_of a) p)
-
--- the end of a capture that is fed no more; refused as its last part was
-abbrev pub finish_fed : Result Capture Refusal → Result End ℕ
-finish_fed (Ok c) = finish_of 0 c
-finish_fed (Err r) = Err (number r)

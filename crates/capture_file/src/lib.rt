@@ -8,9 +8,9 @@
 ghost use Rattle.std.specs.Prelude.{◌≡◌, List, ℕ};
 ghost use Rattle.refusals.specs.Numbers.{numbered};
 ghost use Rattle.program_io.specs.Answers.{answer_of};
-ghost use Rattle.capture.specs.Feeding.{kept, fed_by};
+ghost use Rattle.capture.specs.Feeding.{kept, fed_by, finish_fed};
 ghost use Rattle.capture.specs.declared.Capture.{Capture};
-ghost use Rattle.capture_file.specs.Answers.{turned, turn_of, taken_in, finish_fed};
+ghost use Rattle.capture_file.specs.Answers.{turned, turn_of, taken_in};
 ghost use Rattle.capture_file.specs.Played.{TurnOfSome, ReplayOfSome};
 
 use capture::{Capture, End};
@@ -41,7 +41,7 @@ pub fn after_read(got: io::Result<usize>, buf: &[u8], fed: Result<Capture, Refus
     ensures { (before : Capture) (m w : List ℕ) → turned result before m w ≡ turn_of (answer_of got buf.now) (fed_by fed before m w) }
 {
     match fed {
-        Ok(capture) if 0 < program_io::reading::count(got, buf) && !capture::is_over(capture) => {
+        Ok(capture) if 0 < program_io::reading::count(got, buf) && !capture::is_over(fed) => {
             Turn::More(capture)
         }
         _ => Turn::Last(fed, got.err()),
@@ -67,7 +67,7 @@ pub fn take_in(
 pub fn finish(fed: Result<Capture, Refusal>) -> Result<End, Refusal>
     ensures { numbered result ≡ finish_fed fed }
 {
-    capture::finish(fed?)
+    capture::finish(fed)
 }
 
 // One read. The buffer stands here, so that the loop knows nothing of it.
@@ -106,7 +106,7 @@ pub fn play(source: &mut Source, memory: &mut [u8], writers: &mut [u64]) -> Play
         }
     }
     Played {
-        end: capture::finish(capture),
+        end: capture::finish(Ok(capture)),
         failed: None,
     }
 }

@@ -12,10 +12,9 @@ use Rattle.print.specs.declared.Printout.{Printout}
 use Rattle.program_io.specs.Answers.{Answer, bytes_of, text_of, most_calls}
 use Rattle.capture.specs.declared.Capture.{Capture}
 use Rattle.capture.specs.declared.End.{End}
-use Rattle.capture.specs.Feeding.{Playing, kept, start_of, PartFed, fed, feed_of, finish_of}
+use Rattle.capture.specs.Feeding.{Playing, kept, start_of, PartFed, fed, feed_of, finish_of, finish_fed}
 use Rattle.capture_file.specs.declared.Turn.{Turn}
 use Rattle.capture_file.specs.declared.Turn.TheVariants.{More, Last}
-use Rattle.capture_file.specs.Answers.{finish_fed}
 use Rattle.capture_file.proofs.CodeWays.{FedSoFar, begun, begun-answers, begun-refused, begun-refused-answers, turn-fed, turn-answers, last-fed, last-answers, so-far-replayed, all-fed, all-answers}
 use Rattle.capture_trace.specs.declared.tally.Tally.{Tally}
 use Rattle.capture_trace.specs.Done.{DoneEvent, done_in_part, done_of}

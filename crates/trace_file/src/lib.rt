@@ -134,7 +134,7 @@ pub fn follow(
                 };
                 if !printed {
                     return Followed {
-                        end: capture::finish(capture),
+                        end: capture::finish(Ok(capture)),
                         tally: step.tally,
                         failed: None,
                         printed,
@@ -152,7 +152,7 @@ pub fn follow(
         }
     }
     Followed {
-        end: capture::finish(course.capture),
+        end: capture::finish(Ok(course.capture)),
         tally: course.tally,
         failed: None,
         printed: true,
