@@ -50,7 +50,7 @@ fn play(
 {
     let before = course.capture;
     let stepped = engine::past_entry::step(event, before.chip, before.count, memory, writers);
-    let Ok(answer) = stepped.answer else {
+    let Ok(_) = stepped.answer else {
         return Course {
             capture: Capture {
                 chip: stepped.chip,
@@ -67,7 +67,7 @@ fn play(
             count: stepped.count,
             line: LineSoFar::Empty,
         },
-        tally: course.tally.with(answer),
+        tally: course.tally.with(stepped.answer),
     }
 }
 

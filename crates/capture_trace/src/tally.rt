@@ -1,9 +1,10 @@
 // How many bytes from the master were acknowledged, and how many not.
 ghost use Rattle.std.specs.Prelude.{◌≡◌};
-ghost use Rattle.engine.specs.Answer.{given};
+ghost use Rattle.engine.specs.Answer.{told};
 ghost use Rattle.capture_trace.specs.Follow.{none_tallied, one_more, tallied};
 
 use engine::answer::Answer;
+use refusals::Refusal;
 
 #[derive(Clone, Copy, Debug, PartialEq, Eq, Hash)]
 pub struct Tally {
@@ -28,21 +29,21 @@ impl Tally {
         }
     }
 
-    // With the answer to one accepted event more. A command is acknowledged whether it is taken or not.
+    // With the answer to one event more: nothing of a refused one. A command is acknowledged whether it is taken or not.
     #[tactic(auto, unfolding(crate::specs::Follow::tallied))]
-    pub fn with(self, answer: Answer) -> Self
-        ensures { result ≡ tallied (given answer) self }
+    pub fn with(self, answer: Result<Answer, Refusal>) -> Self
+        ensures { result ≡ tallied (told answer) self }
     {
         match answer {
-            Answer::Acknowledged | Answer::Command(_) => Self {
+            Ok(Answer::Acknowledged | Answer::Command(_)) => Self {
                 acknowledged: one_more(self.acknowledged),
                 ..self
             },
-            Answer::NotAcknowledged => Self {
+            Ok(Answer::NotAcknowledged) => Self {
                 not_acknowledged: one_more(self.not_acknowledged),
                 ..self
             },
-            Answer::Nothing | Answer::Read(_) => self,
+            Ok(Answer::Nothing | Answer::Read(_)) | Err(_) => self,
         }
     }
 }

@@ -1,7 +1,6 @@
 use native.Mathlib.Omega.{arith}
-use mathlib.Core.Path.{sym, ap, ◌∙◌}
-use Rattle.engine.specs.Answer.{Answer, told}
-use Rattle.capture_trace.specs.Follow.{tallied}
+use mathlib.Core.Path.{ap, ◌∙◌}
+use Rattle.engine.specs.Answer.{told}
 use Rattle.chip.proofs.Laws.{step-past-entry}
 use Rattle.capture_trace.proofs.CodeWays.{when-refused, when-accepted, none-tallied, none_told, one-tallied, one_told}
 use Rattle.capture_trace.proofs.event.play.Goals as goal
@@ -20,6 +19,6 @@ returns c =
     let came = when-accepted _ _ _ step _ answered in
     record {
       count_after = came.0;
-      tally_value = one-tallied _ _ _ step came.1 args.course.tally _ (c.with.ensures ∙ ap (λ (a : Answer). tallied a args.course.tally) (sym answered));
+      tally_value = one-tallied _ _ _ step came.1 args.course.tally _ c.with.ensures;
       prints = one_told _ _ _ step came.1 args.told c.tell.ensures;
     }
