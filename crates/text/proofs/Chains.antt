@@ -48,32 +48,14 @@ nth-piece b s k n r none piece e f u same = rw (← same, ← split_lem b s) (go
     go (Some x) g v = rw v (ap (λ (o : Option (List ℕ)). unwrap_or o []) g ∙ unwrap_or-slice_get ps n [])
     go None g v = rw v (e ∙ ap (λ (o : Option (List ℕ)). unwrap_or o []) g ∙ unwrap_or-slice_get ps n [])
 
-place-index : (w : List ℕ) (ps : List (List ℕ)) → position_or_len (λ (p : List ℕ). same_bytes p w) ps ≡ index_of w ps
+-- the words before the first that is w
+pub place-index : (w : List ℕ) (ps : List (List ℕ)) → position_or_len (λ (p : List ℕ). same_bytes p w) ps ≡ index_of w ps
 place-index w [] = refl
 place-index w (p ∷ ps) = one (same_bytes p w) (place-index w ps)
   where
     one : (t : Bool) → position_or_len (λ (q : List ℕ). same_bytes q w) ps ≡ index_of w ps → cond (not t) (1 + position_or_len (λ (q : List ℕ). same_bytes q w) ps) 0 ≡ cond t 0 (suc (index_of w ps))
     one true e = refl
     one false e = omega arith
-
-index-within : (w : List ℕ) (ps : List (List ℕ)) → index_of w ps ≤ length ps
-index-within w [] = omega arith
-index-within w (p ∷ ps) = one (same_bytes p w) (index-within w ps)
-  where
-    one : (t : Bool) → index_of w ps ≤ length ps → cond t 0 (suc (index_of w ps)) ≤ suc (length ps)
-    one true e = omega arith
-    one false e = omega arith
-
--- where `position` found the word, or the number of pieces
-pub position-index :
-    (w : List ℕ) (ps : List (List ℕ)) (r : Option ℕ) (n : ℕ)
-    → r ≡ cond (ltb (position_or_len (λ (p : List ℕ). same_bytes p w) ps) (length ps)) (Some (position_or_len (λ (p : List ℕ). same_bytes p w) ps)) None
-    → n ≡ length ps → unwrap_or r n ≡ index_of w ps
-position-index w ps r n e en = rw (e, place-index w ps) (go (dec_lt (index_of w ps) (length ps)))
-  where
-    go : Dec (index_of w ps < length ps) → unwrap_or (cond (ltb (index_of w ps) (length ps)) (Some (index_of w ps)) None) n ≡ index_of w ps
-    go (yes l) = rw (lt-ltb (index_of w ps) (length ps) l)
-    go (no m) = rw (le-ltb (index_of w ps) (length ps) (omega arith)) (omega (arith, index-within w ps))
 
 -- ---- the first place of a byte
 

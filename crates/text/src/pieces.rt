@@ -23,6 +23,6 @@ pub fn index_of(s: &[u8], separator: u8, word: &[u8]) -> usize
     ensures { result ≡ index_of word.now (split separator s.now) }
 {
     s.split(|b| *b == separator)
-        .position(|piece| equal(piece, word))
-        .unwrap_or(pieces(s, separator))
+        .take_while(|piece| !equal(piece, word))
+        .count()
 }
