@@ -1,5 +1,6 @@
 pub mod Ranges
 pub mod CodeWays
+pub mod Fields
 pub mod Parsing
 pub mod Answers
 pub mod Laws

@@ -67,6 +67,11 @@ set_of f (Some n) = cond (is_field f) (set_within f n) (Err 6)
 
 -- ---- the words, each with its number of fields
 
+-- the number that a field writes; where there is no field, there is none
+abbrev pub number_in : Option (List ℕ) → Option ℕ
+number_in (Some field) = number_of field
+number_in None = None
+
 abbrev pub piece_at : List (List ℕ) → ℕ → List ℕ
 piece_at ps k = get_or ps k []
 

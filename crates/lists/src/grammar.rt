@@ -1,14 +1,14 @@
 // One line of a drawing list, without its newline. Malformed comes before out of range: 6 before 7. No row of the instruction
 // table is on the list of those that can't be read, so 8 never comes.
-ghost use Rattle.std.specs.Prelude.{◌≡◌, Some};
+ghost use Rattle.std.specs.Prelude.{◌≡◌, Some, option_map};
 ghost use Rattle.refusals.specs.Numbers.{numbered};
 ghost use Rattle.text.specs.Text.{split};
-ghost use Rattle.lists.specs.Line.{tab, is_field, fill_fits, fill_within, set_within, set_of, number_at, or_malformed, put_line, fill_line, set_line, line_of};
+ghost use Rattle.lists.specs.Line.{tab, is_field, fill_fits, fill_within, set_within, set_of, number_in, or_malformed, put_line, fill_line, set_line, line_of};
 
 use crate::Line;
 use refusals::Refusal;
 use text::decimal::number;
-use text::pieces::{piece, pieces};
+use text::pieces::piece;
 use text::search::equal;
 
 const TAB: u8 = b'\t';
@@ -72,23 +72,25 @@ fn set(place: usize, n: u16) -> Result<Line, Refusal>
     set_within(place as u8, n)
 }
 
-// Field k as a number.
-fn number_at(s: &[u8], k: usize) -> Result<u16, Refusal>
-    ensures { numbered result ≡ or_malformed (number_at (split tab s.now) k) }
+// A field as a number; where there is no field, there is none.
+fn number_in(field: Option<&[u8]>) -> Result<u16, Refusal>
+    ensures { numbered result ≡ or_malformed (number_in (option_map (λ s. s.now) field.entry)) }
 {
-    number(piece(s, TAB, k)).ok_or(Refusal::MalformedLine)
+    field.and_then(number).ok_or(Refusal::MalformedLine)
 }
 
 // `put` column bank byte.
 fn put_line(s: &[u8]) -> Result<Line, Refusal>
     ensures { numbered result ≡ put_line (split tab s.now) }
 {
-    if pieces(s, TAB) != 4 {
+    let mut fields = s.split(|b| *b == TAB);
+    let _word = fields.next();
+    let column = number_in(fields.next())?;
+    let bank = number_in(fields.next())?;
+    let byte = number_in(fields.next())?;
+    if fields.next().is_some() {
         return Err(Refusal::MalformedLine);
     }
-    let column = number_at(s, 1)?;
-    let bank = number_at(s, 2)?;
-    let byte = number_at(s, 3)?;
     fill(column, column, bank, bank, byte)
 }
 
@@ -96,14 +98,16 @@ fn put_line(s: &[u8]) -> Result<Line, Refusal>
 fn fill_line(s: &[u8]) -> Result<Line, Refusal>
     ensures { numbered result ≡ fill_line (split tab s.now) }
 {
-    if pieces(s, TAB) != 6 {
+    let mut fields = s.split(|b| *b == TAB);
+    let _word = fields.next();
+    let c0 = number_in(fields.next())?;
+    let c1 = number_in(fields.next())?;
+    let b0 = number_in(fields.next())?;
+    let b1 = number_in(fields.next())?;
+    let byte = number_in(fields.next())?;
+    if fields.next().is_some() {
         return Err(Refusal::MalformedLine);
     }
-    let c0 = number_at(s, 1)?;
-    let c1 = number_at(s, 2)?;
-    let b0 = number_at(s, 3)?;
-    let b1 = number_at(s, 4)?;
-    let byte = number_at(s, 5)?;
     fill(c0, c1, b0, b1, byte)
 }
 
@@ -111,11 +115,14 @@ fn fill_line(s: &[u8]) -> Result<Line, Refusal>
 fn set_line(s: &[u8]) -> Result<Line, Refusal>
     ensures { numbered result ≡ set_line (split tab s.now) }
 {
-    if pieces(s, TAB) != 3 {
+    let mut fields = s.split(|b| *b == TAB);
+    let _word = fields.next();
+    let name = fields.next().ok_or(Refusal::MalformedLine)?;
+    let value = number_in(fields.next())?;
+    if fields.next().is_some() {
         return Err(Refusal::MalformedLine);
     }
-    let value = number_at(s, 2)?;
-    set(registers::names::place(piece(s, TAB, 1)), value)
+    set(registers::names::place(name), value)
 }
 
 #[tactic(auto, unfolding(crate::specs::Line::line_of))]
